@@ -1,0 +1,8 @@
+mod Examples
+pub mod NearnessLemmas
+pub mod SumsLemmas
+pub mod LawLemmas
+pub mod WalkLemmas
+pub mod ChoiceLemmas
+pub mod CalmLemmas
+pub mod SampleLemmas

@@ -1,0 +1,18 @@
+//! The law of an auction over plain lists: which prices meet the three conditions, which of them is
+//! chosen, and what an attempt answers. `plain_attempt` is the definitions' own program.
+#![tactic(auto)]
+
+mod attempt;
+mod choice;
+mod law;
+mod nearness;
+mod sums;
+
+pub use attempt::{best_ask, best_bid, plain_attempt};
+pub use choice::chosen_sums;
+pub use law::{chosen_is_nearest, one_answer};
+pub use nearness::ByNearness;
+pub use sums::{limit_of, plain_sums};
+
+#[cfg(test)]
+mod tests;

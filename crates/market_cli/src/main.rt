@@ -1,0 +1,50 @@
+//! The program `market`: does what its words ask for, over the files that they name.
+#![tactic(auto)]
+
+use market_top::{Status, file_words, run_market};
+use mkt_io::{FileShelf, StdSink};
+use std::alloc::{AllocError, Global};
+use std::env::{self, Env};
+use std::io::ErrorKind;
+use std::process::ExitCode;
+use std::rt::Files;
+
+fn main(rt: HostRuntime) -> ExitCode {
+    let mut out = StdSink::new(rt.stdout());
+    let mut err = StdSink::new(rt.stderr());
+    let status = match words_of(&rt) {
+        Ok(words) => {
+            let mut shelf = FileShelf::new(&rt, file_words(&words));
+            run_market(rt.alloc(), &words, &mut shelf, &mut out, &mut err)
+        }
+        // No command has no words, so the usage line is written.
+        Err(WordsError::NotText) => {
+            let words = Vec::new(rt.alloc());
+            let mut shelf = FileShelf::new(&rt, file_words(&words));
+            run_market(rt.alloc(), &words, &mut shelf, &mut out, &mut err)
+        }
+        Err(WordsError::Memory) => Status::NO_MEMORY,
+    };
+    ExitCode::from(status.0)
+}
+
+/// Why there are no words.
+#[derive(Clone, Copy)]
+enum WordsError {
+    /// A word is no UTF-8 text.
+    NotText,
+    /// There is no memory for them.
+    Memory,
+}
+
+// The words after the program's name.
+fn words_of<R: Env + AllocGlobal>(rt: &R) -> Result<Vec<String>, WordsError> {
+    match env::args(rt) {
+        Ok(args) => args
+            .skip(1)
+            .collect(rt.alloc())
+            .map_err(|_| WordsError::Memory),
+        Err(e) if e.kind() == ErrorKind::OutOfMemory => Err(WordsError::Memory),
+        Err(_) => Err(WordsError::NotText),
+    }
+}

@@ -1,0 +1,5 @@
+mod AuctionFileLemmas
+mod EvenGridLemmas
+mod OrderLemmas
+mod PrintLemmas
+mod VerdictLemmas

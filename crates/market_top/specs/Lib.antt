@@ -1,0 +1,14 @@
+pub use Rattle.mkt_base.specs.Book
+pub use Rattle.mkt_base.specs.Certificate
+pub use Rattle.mkt_base.specs.Text
+pub use Rattle.mkt_io.specs.LineFault
+pub use Rattle.mkt_io.specs.Lines
+pub use Rattle.mkt_io.specs.Words
+pub use Rattle.auction_law.specs.Attempt
+pub use Rattle.auction_law.specs.Nearness
+pub mod AuctionFile
+pub mod CertificateLines
+pub mod Command
+pub mod EvenGrid
+pub mod Program
+pub mod Read

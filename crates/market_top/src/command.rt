@@ -1,0 +1,45 @@
+// The words of the command line.
+ghost use Rattle.std.specs.Prelude.{◌≡◌, Some, None, IfSome, MatchOption, length, map, string_bytes};
+ghost use Rattle.market_top.specs.Command.{asked, command_of, file_words, is_file_word};
+
+/// What the words ask for.
+#[derive(Clone, Copy)]
+pub(crate) enum Command<'a> {
+    /// An auction over the file of this name.
+    Auction { file: &'a str },
+}
+
+/// The words that name files, which stand side by side. None where the words are refused.
+#[tactic(auto, unfolding(crate::specs::Command::command_of))]
+pub fn file_words(words: &[String]) -> &[String]
+    ensures { map string_bytes result.now ≡ file_words (map string_bytes words.now) }
+{
+    match command_of(words) {
+        Some(Command::Auction { .. }) => &words[1..],
+        None => &words[..0],
+    }
+}
+
+// The command that the words are; none where they are refused.
+#[tactic(auto, unfolding(crate::specs::Command::command_of))]
+pub(crate) fn command_of(words: &[String]) -> Option<Command<'_>>
+    ensures command { MatchOption result (command_of (map string_bytes words.now) ≡ None) (λ command. command_of (map string_bytes words.now) ≡ Some (asked command)) }
+    ensures two { IfSome result (λ _. length words.now ≡ 2) }
+{
+    match words {
+        [name, file] if name.as_str() == "auction" && is_file_word(file.as_str()) => {
+            Some(Command::Auction {
+                file: file.as_str(),
+            })
+        }
+        _ => None,
+    }
+}
+
+// A file's name is not empty and does not begin with a dash.
+fn is_file_word(word: &str) -> bool
+    ensures { result ≡ is_file_word word.now }
+{
+    let bytes = word.as_bytes();
+    !bytes.is_empty() && bytes[0] != b'-'
+}

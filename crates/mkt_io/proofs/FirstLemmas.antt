@@ -1,0 +1,29 @@
+-- The first place that passes a test.
+use Rattle.std.proofs.Common.{◌≡◌, ℕ, ◌<◌, ◌≤◌, Bool, true, false, cond, ltb, List, Option, Some, None, length, sym, ◌∙◌, arith}
+use Rattle.std.specs.List.{All, position_or_len}
+use Rattle.std.proofs.lemmas.Bool.Decides.{nat_tests}
+use Rattle.std.proofs.lemmas.List.Sums.{fails_before_first}
+
+some-when : (b : Bool) (p at : ℕ) → cond b (Some p) None ≡ Some at → (b ≡ true) × (p ≡ at)
+some-when true p at e = (cc, cc)
+some-when false p at e = absurd (cc)
+
+none-when : (b : Bool) (p : ℕ) → cond b (Some p) None ≡ None → b ≡ false
+none-when true p e = absurd (cc)
+none-when false p e = cc
+
+-- the place that was found is the first that passes
+pub found-at : (test : ℕ → Bool) (xs : List ℕ) (r : Option ℕ) (at : ℕ) → r ≡ cond (ltb (position_or_len test xs) (length xs)) (Some (position_or_len test xs)) None → r ≡ Some at
+    → (position_or_len test xs ≡ at) × (at < length xs)
+found-at test xs r at e f =
+    let s = some-when (ltb (position_or_len test xs) (length xs)) (position_or_len test xs) at (sym e ∙ f) in
+    let below : position_or_len test xs < length xs = grind (arith, nat_tests, s.0) in
+    (s.1, omega (arith, s.1, below))
+
+-- where none was found, none passes
+pub none-found : (test : ℕ → Bool) (xs : List ℕ) (r : Option ℕ) → r ≡ cond (ltb (position_or_len test xs) (length xs)) (Some (position_or_len test xs)) None → r ≡ None
+    → All (λ x. test x ≡ false) xs
+none-found test xs r e f =
+    let s = none-when (ltb (position_or_len test xs) (length xs)) (position_or_len test xs) (sym e ∙ f) in
+    let above : length xs ≤ position_or_len test xs = grind (arith, nat_tests, s) in
+    λ k d h. fails_before_first test xs k d (omega (arith, above, h))

@@ -1,0 +1,54 @@
+// What may be wrong with a line of a text file.
+ghost use Rattle.std.specs.Prelude.{◌≡◌, ◌≤◌, length, MatchResult};
+ghost use Rattle.mkt_io.specs.LineFault.{checked_words, fault_number, is_skipped};
+
+use crate::{LINE_LIMIT, Words, is_text};
+
+/// What is wrong with a line.
+#[derive(Clone, Copy, Debug, PartialEq, Eq)]
+pub enum LineFault {
+    /// An unknown, missing or extra word.
+    Word,
+    /// A word that is no number, or a number out of its range, where a number is wanted.
+    Number,
+    /// More than 200 bytes without the line end.
+    TooLong,
+    /// A line after the first 500,000.
+    TooMany,
+    /// A byte that is neither a tab nor 32 to 126.
+    NotText,
+}
+
+/// How many lines a text file may have.
+pub const LINES_LIMIT: u32 = 500_000;
+
+impl LineFault {
+    /// The fault's number, as it is printed.
+    pub fn number(self) -> u8
+        ensures { result ≡ fault_number self }
+    {
+        match self {
+            LineFault::Word => 1,
+            LineFault::Number => 2,
+            LineFault::TooLong => 7,
+            LineFault::TooMany => 8,
+            LineFault::NotText => 9,
+        }
+    }
+}
+
+#[tactic(auto, unfolding(crate::specs::LineFault::checked_words))]
+/// The words of a line, after the tests of its number, its length and its bytes, in this order.
+pub fn checked_words(number: u32, line: &[u8]) -> Result<Words<'_>, LineFault>
+    ensures { MatchResult result (λ words. checked_words number line.now ≡ Ok words) (λ fault. checked_words number line.now ≡ Err fault) }
+{
+    if number > LINES_LIMIT {
+        Err(LineFault::TooMany)
+    } else if line.len() > LINE_LIMIT {
+        Err(LineFault::TooLong)
+    } else if !is_text(line) {
+        Err(LineFault::NotText)
+    } else {
+        Ok(Words::new(line))
+    }
+}

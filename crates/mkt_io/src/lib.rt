@@ -1,0 +1,27 @@
+//! Bytes in and bytes out: a shelf of files, a sink for bytes, the lines and words of a text, and a
+//! printer that gathers what it is handed. A fault is told only where the object that was handed in
+//! counted one.
+#![tactic(auto)]
+
+mod block;
+mod fault;
+mod lines;
+mod memory;
+mod printer;
+mod shelf;
+mod sink;
+mod system;
+mod text;
+mod words;
+
+pub use fault::{LINES_LIMIT, LineFault, checked_words};
+pub use lines::{LINE_LIMIT, Lines, Piece};
+pub use memory::{MemFault, MemShelf, MemSink};
+pub use printer::Printer;
+pub use shelf::{ReadFault, Shelf, read_whole};
+pub use sink::{Failed, Sink, WriteFault, write_all};
+pub use system::{FileShelf, StdSink};
+pub use words::{Words, is_text, number_in, number_word};
+
+#[cfg(test)]
+mod tests;
