@@ -1,8 +1,7 @@
 -- What holds of an auction while its file is read.
-use Rattle.std.proofs.Common.{◌≡◌, ℕ, ◌+◌, ◌<◌, ◌≤◌, Bool, true, false, cond, ltb, List, [], ◌∷◌, ◌++◌, length, length-append, Option, Some, None, Result, Ok, Err, IfOk, IfSome, refl, sym, ap, ◌∙◌, arith, rules}
+use Rattle.std.proofs.Common.{◌≡◌, ℕ, ◌+◌, ◌≤◌, Bool, true, false, cond, ltb, List, [], ◌∷◌, length-append, Option, Some, None, Result, Ok, Err, IfOk, IfSome, refl, sym, ap, ◌∙◌, arith, rules}
 use Rattle.std.proofs.lemmas.Bool.Decides.{nat_tests}
 use Rattle.mkt_io.specs.LineFault.{checked_words, number_in}
-use Rattle.mkt_io.specs.Words.{number_of}
 use Rattle.mkt_io.specs.declared.fault.LineFault.{LineFault}
 use Rattle.market_top.specs.EvenGrid.{IsEvenGrid}
 use Rattle.std.proofs.lemmas.List.Elements.{All-push}

@@ -1,5 +1,5 @@
 -- What printing adds, regrouped, and the walk over the nearer prices.
-use Rattle.std.proofs.Common.{◌≡◌, ◌≢◌, ℕ, Bool, true, false, not, cond, List, [], ◌∷◌, ◌++◌, map, Option, Some, None, find, flat_map, take_while, refl, sym, ap, ◌∙◌, append_assoc, rules}
+use Rattle.std.proofs.Common.{◌≡◌, ◌≢◌, ℕ, Bool, true, false, not, List, [], ◌∷◌, ◌++◌, map, Option, Some, find, flat_map, take_while, refl, sym, ap, ◌∙◌, append_assoc}
 use Rattle.std.proofs.lemmas.List.Sums.{take_while-cons}
 use Rattle.mkt_base.specs.Book.{sums_at}
 use Rattle.mkt_base.specs.Certificate.{rejected_line}

@@ -1,5 +1,5 @@
 -- What an auction file says: a grid with its reference and orders in the order of their lines, or its first fault.
-use Rattle.std.specs.Prelude.{◌≡◌, ℕ, ◌+◌, ◌-◌, ◌*◌, ◌<◌, ◌≤◌, ◌==◌, List, [], ◌∷◌, ◌++◌, length, Option, Some, None, Result, Ok, Err, if◌then◌else◌, nat_le, codes, slice_index, All}
+use Rattle.std.specs.Prelude.{ℕ, ◌+◌, ◌-◌, ◌*◌, ◌<◌, ◌≤◌, List, [], ◌∷◌, ◌++◌, length, Option, Some, None, Result, Ok, Err, if◌then◌else◌, nat_le, codes, All}
 use Rattle.std.specs.Option.{ok_or}
 use Rattle.std.specs.Str.{bytes_eq}
 use Rattle.mkt_base.specs.declared.order.Side.{Side}
@@ -71,13 +71,15 @@ order_line grid side number words = do
 abbrev pub side_of : List ℕ → Result Side LineFault
 side_of word = if bytes_eq word (codes "buy") then Ok Buy else (if bytes_eq word (codes "sell") then Ok Sell else Err Word)
 
--- what a line with these words says: the first that is not skipped gives the grid, every further one an order
+-- what a line that is not skipped says: the first gives the grid, every further one an order
+unfoldable pub said_by : Option EvenGrid → ℕ → List (List ℕ) → Result Entry LineFault
+said_by before number [] = Err Word
+said_by None number (word ∷ words) = if bytes_eq word (codes "grid") then grid_line words else Err Word
+said_by (Some grid) number (word ∷ words) = side_of word >>= λ side. order_line grid side number words
+
+-- what a line with these words says, after the grid where that has been read
 unfoldable pub entry_of : Option EvenGrid → ℕ → List (List ℕ) → Result Entry LineFault
-entry_of before number [] = Ok entries.Skipped
-entry_of None number (word ∷ words) =
-    if is_skipped (word ∷ words) then Ok entries.Skipped else (if bytes_eq word (codes "grid") then grid_line words else Err Word)
-entry_of (Some grid) number (word ∷ words) =
-    if is_skipped (word ∷ words) then Ok entries.Skipped else (side_of word >>= λ side. order_line grid side number words)
+entry_of before number words = if is_skipped words then Ok entries.Skipped else said_by before number words
 
 -- an auction: the grid, the position of the reference on it, and the orders by place
 pub record Auction : Type 0 where

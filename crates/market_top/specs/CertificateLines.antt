@@ -1,5 +1,5 @@
 -- The parts of a certificate's text, as they are printed.
-use Rattle.std.specs.Prelude.{ℕ, List, [], ◌∷◌, ◌++◌, map, flat_map}
+use Rattle.std.specs.Prelude.{ℕ, List, ◌∷◌, map, flat_map}
 use Rattle.mkt_base.specs.Book.{sums_at}
 use Rattle.mkt_base.specs.Certificate.{rejected_line}
 use Rattle.mkt_base.specs.declared.units.Price.{Price}

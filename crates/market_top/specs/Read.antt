@@ -1,6 +1,5 @@
 -- What a call that reads an auction file answers.
 use Rattle.std.specs.Prelude.{◌≡◌, ℕ, Option, Some, None, Result, Ok, Err}
-use Rattle.std.specs.Option.{option_map}
 use Rattle.mkt_io.specs.declared.fault.LineFault.{LineFault}
 use Rattle.market_top.specs.AuctionFile.{Auction}
 use Rattle.market_top.specs.declared.auction_file.AuctionFile.{AuctionFile}

@@ -184,7 +184,7 @@ fn side_of(word: &[u8]) -> Result<Side, LineFault>
 }
 
 // What a line with these words says, after the grid where that has been read.
-#[tactic(auto, unfolding(crate::specs::AuctionFile::entry_of))]
+#[tactic(auto, unfolding(crate::specs::AuctionFile::entry_of, crate::specs::AuctionFile::said_by))]
 fn entry_of(
     before: Option<EvenGrid>,
     number: u32,
@@ -194,12 +194,9 @@ fn entry_of(
     ensures exact { result ≡ entry_of before number words.old }
     ensures sound { IfOk result (IsFileEntry before) }
 {
-    let Some(first) = words.next() else {
+    let Some(first) = words.first() else {
         return Ok(Entry::Skipped);
     };
-    if first.first() == Some(&b'#') {
-        return Ok(Entry::Skipped);
-    }
     match before {
         None if first == b"grid".as_slice() => grid_line(words),
         None => Err(LineFault::Word),

@@ -20,15 +20,17 @@ struct Answer {
     err: String,
 }
 
-/// Which calls fail: of the shelf, of standard output and of standard error.
+/// Which calls fail: of the shelf, of standard output and of standard error; and which of the two calls is made.
 #[derive(Clone, Copy)]
 struct Fails<'a> {
+    by_plain: bool,
     shelf: &'a [u64],
     out: &'a [u64],
     err: &'a [u64],
 }
 
 const NONE: Fails<'static> = Fails {
+    by_plain: false,
     shelf: &[],
     out: &[],
     err: &[],
@@ -61,7 +63,11 @@ fn answer_of(alloc: Global, words: &[&str], file: &[u8], fails: Fails) -> Result
     let mut shelf = MemShelf::new(names, files, fails.shelf.to_vec(alloc)?);
     let mut out = MemSink::make(alloc, 1 << 16, fails.out.to_vec(alloc)?).map_err(|_| "no room")?;
     let mut err = MemSink::make(alloc, 1 << 10, fails.err.to_vec(alloc)?).map_err(|_| "no room")?;
-    let status = run_market(alloc, &words, &mut shelf, &mut out, &mut err);
+    let status = if fails.by_plain {
+        run_plain(alloc, &words, &mut shelf, &mut out, &mut err)
+    } else {
+        run_market(alloc, &words, &mut shelf, &mut out, &mut err)
+    };
     Ok(Answer {
         status: status.0,
         out: String::from_utf8_lossy(alloc, out.bytes())?,
@@ -286,6 +292,17 @@ fn faults_of_the_shelf_and_the_sinks(rt: HostRuntime) -> Result<(), Fail> {
     };
     let out = Fails { out: &[0], ..NONE };
     let err = Fails { err: &[0], ..NONE };
+    // The call that waits for nobody writes the same.
+    let plain = Fails {
+        by_plain: true,
+        ..NONE
+    };
+    let answer = answer_of(alloc, &["auction", "a"], opening, plain)?;
+    assert_eq!(rt; answer.status, 0);
+    assert_eq!(rt;
+        answer.out.as_str(),
+        "rejected 1050 500 500 400 400\nrejected 1040 500 500 400 0\nprice 1060 400 500 300 400 400\n"
+    );
     let cases: [(&[&str], &[u8], Fails, u8, &str); 6] = [
         // A shelf without the file.
         (&["auction", "b"], opening, NONE, 3, "read\n"),

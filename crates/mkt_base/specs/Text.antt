@@ -1,7 +1,6 @@
 -- The texts of the program: lines of words, numbers in decimal, times.
-use Rattle.std.specs.Prelude.{ℕ, ◌+◌, ◌/◌, ◌%◌, List, [], ◌∷◌, ◌++◌, Option, Some, None}
+use Rattle.std.specs.Prelude.{ℕ, ◌+◌, ◌/◌, ◌%◌, List, [], ◌∷◌, ◌++◌}
 use Rattle.std.specs.List.{join_with_byte}
-use Rattle.std.specs.Fmt.{decimal}
 
 -- words with one space between, and LF
 abbrev pub line : List (List ℕ) → List ℕ

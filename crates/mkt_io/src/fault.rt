@@ -1,6 +1,6 @@
 // What may be wrong with a line of a text file.
 ghost use Rattle.std.specs.Prelude.{◌≡◌, ◌≤◌, length, MatchResult};
-ghost use Rattle.mkt_io.specs.LineFault.{checked_words, fault_number, is_skipped};
+ghost use Rattle.mkt_io.specs.LineFault.{checked_words, fault_number};
 
 use crate::{LINE_LIMIT, Words, is_text};
 

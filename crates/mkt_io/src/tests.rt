@@ -11,6 +11,7 @@ use mkt_base::Moment;
 use std::alloc::{AllocError, Global};
 use std::io;
 use std::io::{ErrorKind, Write};
+use std::rt::Files;
 use std::test::Fail;
 
 // A caller that makes a printer and finishes it.
@@ -92,6 +93,38 @@ fn a_stream_is_written_and_flushed(rt: HostRuntime) {
         let mut sink = StdSink::new(Stream { takes, flushes });
         assert_eq!(rt; sink.write(b"hello"), want, "at {takes}");
     }
+}
+
+// How a file of the system is chosen, and then read into the buffer.
+fn chosen_and_read<R: Files>(
+    rt: &R,
+    alloc: Global,
+    name: &str,
+    buf: &mut [u8; 3],
+) -> Result<(bool, Result<usize, Failed>), AllocError> {
+    let mut names = Vec::new(alloc);
+    names.push(String::from_str(alloc, name)?)?;
+    let mut shelf = FileShelf::new(rt, &names);
+    let chosen = shelf.choose(name).is_ok();
+    Ok((chosen, shelf.read(buf)))
+}
+
+#[test]
+fn files_are_chosen_and_read(rt: HostRuntime) -> Result<(), Fail> {
+    let cases = [
+        ("/dev/zero", true, Ok(3), [0; 3]),
+        ("/dev/null", true, Ok(0), [7; 3]),
+        ("/", true, Err(Failed), [7; 3]),
+        ("/no such file", false, Err(Failed), [7; 3]),
+    ];
+    for (name, chosen, read, bytes) in cases {
+        let mut buf = [7; 3];
+        let answer = chosen_and_read(&rt, rt.alloc(), name, &mut buf)?;
+        assert_eq!(rt; answer.0, chosen, "at {name}");
+        assert_eq!(rt; answer.1, read, "at {name}");
+        assert_eq!(rt; buf, bytes, "at {name}");
+    }
+    Ok(())
 }
 
 #[test]

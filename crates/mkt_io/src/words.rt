@@ -1,7 +1,7 @@
 // The words of a line, and the numbers among them.
 ghost use Rattle.std.specs.Prelude.{◌≡◌, ◌≤◌, [], ◌∷◌, length, true, false, slice_get, IfSome, MatchOption, MatchResult};
 ghost use Rattle.mkt_io.specs.Words.{is_blank, is_digit, is_text_byte, digits_value, number_of, words};
-ghost use Rattle.mkt_io.specs.LineFault.{no_more, number_in};
+ghost use Rattle.mkt_io.specs.LineFault.{is_skipped, no_more, number_in};
 ghost use Rattle.std.specs.List.{list_all};
 
 use crate::LineFault;
@@ -36,6 +36,18 @@ impl<'a> Words<'a> {
     {
         let (word, rest) = cut_word(without_blanks(self.rest))?;
         self.rest = rest;
+        Some(word)
+    }
+
+    /// Takes the first word of a line that says something. None where the line is skipped: it has no word, or
+    /// its first word begins with `#`.
+    pub fn first(&mut self) -> Option<&'a [u8]>
+        ensures { MatchOption result (is_skipped self.old ≡ true) (λ word. (is_skipped self.old ≡ false) × (self.old ≡ word.now ∷ self.new)) }
+    {
+        let word = self.next()?;
+        if word.first() == Some(&b'#') {
+            return None;
+        }
         Some(word)
     }
 

@@ -1,4 +1,3 @@
-use Rattle.std.proofs.Common.{◌≤◌, IfOk}
 use Rattle.market_top.proofs.AuctionFileLemmas.{number_in-range}
 use Rattle.market_top.proofs.auction_file.next_number.Goals as goal
 

@@ -1,8 +1,7 @@
-use Rattle.std.proofs.Common.{◌≡◌, ◌≢◌, ℕ, true, false, eqb, List, [], ◌∷◌, ◌++◌, Some, find, refl, sym, ap, ◌∙◌, append_assoc, append-nil, eq-eqb}
+use Rattle.std.proofs.Common.{◌≡◌, ◌≢◌, true, false, eqb, [], ◌∷◌, ◌++◌, Some, find, refl, sym, ap, ◌∙◌, append_assoc, append-nil, eq-eqb}
 use Rattle.std.proofs.lemmas.Bool.{eqb-true}
 use Rattle.mkt_base.specs.Book.{sums_at}
 use Rattle.mkt_base.specs.Certificate.{rejected_line}
-use Rattle.mkt_io.specs.Printed.{Printed}
 use Rattle.auction_law.specs.Attempt.{chosen, meets, nearer_prices}
 use Rattle.market_top.proofs.PrintLemmas.{Printed-same, find-other, find-passes, lines_before, lines_before-failed, lines_before-met}
 use Rattle.market_top.proofs.certificate.print_rejected.Goals as goal

@@ -1,4 +1,4 @@
-use Rattle.std.proofs.Common.{List, [], rules}
+use Rattle.std.proofs.Common.{rules}
 use Rattle.market_top.proofs.certificate.write_certificate.Goals as goal
 
 pub returns-clause-all : goal.returns-clause-all

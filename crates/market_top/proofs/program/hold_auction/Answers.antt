@@ -1,4 +1,4 @@
-use Rattle.std.proofs.Common.{◌≡◌, ◌-◌, refl, sym, ap, ◌∙◌, arith, inl, inr}
+use Rattle.std.proofs.Common.{◌≡◌, ◌-◌, refl, ◌∙◌, arith, inl, inr}
 use Rattle.mkt_base.specs.Book.{price_at}
 use Rattle.market_top.specs.EvenGrid.{grid_prices}
 use Rattle.market_top.specs.Program.{certified, no_memory}

@@ -1,7 +1,7 @@
 use Rattle.std.proofs.Common.{◌≡◌, ℕ, Err, refl, sym, ap, ◌∙◌, inl, inr}
 use Rattle.mkt_io.specs.declared.fault.LineFault.{LineFault}
 use Rattle.market_top.specs.AuctionFile.{auction_of}
-use Rattle.market_top.specs.Program.{IsFileVerdict, no_memory, not_read, refused_file}
+use Rattle.market_top.specs.Program.{no_memory, not_read, refused_file}
 use Rattle.market_top.proofs.VerdictLemmas.{Answers-told}
 use Rattle.market_top.proofs.program.run_auction.Goals as goal
 

@@ -1,4 +1,4 @@
-use Rattle.std.proofs.Common.{◌≡◌, refl}
+use Rattle.std.proofs.Common.{refl}
 use Rattle.market_top.specs.Program.{refused_words}
 use Rattle.market_top.proofs.VerdictLemmas.{Answers-told}
 use Rattle.market_top.proofs.program.run_plain.Goals as goal

@@ -1,7 +1,7 @@
-use Rattle.std.proofs.Common.{◌≡◌, ◌+◌, ◌≤◌, ℕ, List, Result, Err, Ok, refl, sym, ap, ◌∙◌, arith}
+use Rattle.std.proofs.Common.{◌≡◌, Ok, arith}
 use Rattle.std.proofs.lemmas.Result.{err_from_is_err_and}
-use Rattle.market_top.specs.AuctionFile.{auction_of, line_entry}
-use Rattle.market_top.specs.Read.{Gives, read_so_far}
+use Rattle.market_top.specs.AuctionFile.{line_entry}
+use Rattle.market_top.specs.Read.{read_so_far}
 use Rattle.market_top.proofs.AuctionFileLemmas.{Fails-as, Gives-at_end, entry_at, fault_at, line_entry-checked_words, line_entry-few, with_entry-IsSoundBefore}
 use Rattle.market_top.proofs.auction_file.AuctionFile.read.Goals as goal
 
