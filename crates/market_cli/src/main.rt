@@ -2,12 +2,10 @@
 #![tactic(auto)]
 
 use market_top::{Status, file_words, run_market};
-use mkt_io::{FileShelf, StdSink};
-use std::alloc::{AllocError, Global};
+use mkt_io::{FileShelf, StdSink, WriteFault, write_all};
 use std::env::{self, Env};
 use std::io::ErrorKind;
 use std::process::ExitCode;
-use std::rt::Files;
 
 fn main(rt: HostRuntime) -> ExitCode {
     let mut out = StdSink::new(rt.stdout());
@@ -23,7 +21,10 @@ fn main(rt: HostRuntime) -> ExitCode {
             let mut shelf = FileShelf::new(&rt, file_words(&words));
             run_market(rt.alloc(), &words, &mut shelf, &mut out, &mut err)
         }
-        Err(WordsError::Memory) => Status::NO_MEMORY,
+        Err(WordsError::Memory) => match write_all(&mut err, b"memory\n") {
+            Ok(()) => Status::NO_MEMORY,
+            Err(WriteFault) => Status::NOT_WRITTEN,
+        },
     };
     ExitCode::from(status.0)
 }
