@@ -12,7 +12,8 @@ pub fn chosen_sums(orders: &[Order], grid: &[Price], reference: Price) -> Option
     requires on_grid { All (λ o. IsOnGrid grid.now o.spot) orders.now }
     requires fits { FitsSums orders.now }
     ensures { MatchOption result (chosen grid.now orders.now reference.0 ≡ None)
-        (λ s. (chosen grid.now orders.now reference.0 ≡ Some s.price.0) × (s ≡ sums_at grid.now orders.now s.price.0)) }
+        (λ s. (chosen grid.now orders.now reference.0 ≡ Some s.price.0)
+        × (s ≡ sums_at grid.now orders.now s.price.0)) }
 {
     let mut best = None;
     for i in (0..grid.len()).rev() {
@@ -35,7 +36,8 @@ pub fn chosen_within(
     requires on_grid { All (λ o. IsOnGrid grid.now o.spot) orders.now }
     requires fits { FitsSums orders.now }
     ensures { MatchOption result (is_traded grid.now orders.now reference.0 lo.0 hi.0 ≡ false)
-        (λ s. IsTrue (is_traded grid.now orders.now reference.0 lo.0 hi.0) × (chosen grid.now orders.now reference.0 ≡ Some s.price.0)
+        (λ s. IsTrue (is_traded grid.now orders.now reference.0 lo.0 hi.0)
+        × (chosen grid.now orders.now reference.0 ≡ Some s.price.0)
         × (s ≡ sums_at grid.now orders.now s.price.0)) }
 {
     let sums = chosen_sums(orders, grid, reference)?;
@@ -63,7 +65,8 @@ fn meets(sums: &Sums) -> bool
 
 // The sums at the nearer price; `sums` itself where there are no others.
 fn nearest(reference: Price, best: Option<Sums>, sums: Sums) -> Sums
-    ensures { MatchOption best (result ≡ sums) (λ b. result ≡ cond (is_nearer reference.0 sums.price.0 b.price.0) sums b) }
+    ensures { MatchOption best (result ≡ sums) (λ b.
+        result ≡ cond (is_nearer reference.0 sums.price.0 b.price.0) sums b) }
 {
     match best {
         Some(best) if !is_nearer(reference, sums.price, best.price) => best,

@@ -47,7 +47,8 @@ impl<'a> ByNearness<'a> {
 
     /// Takes the nearest price. None where no price is left.
     pub fn next(&mut self) -> Option<Price>
-        ensures { MatchOption result ((self.old ≡ []) × (self.new ≡ [])) (λ price. self.old ≡ price.0 ∷ self.new) }
+        ensures { MatchOption result ((self.old ≡ []) × (self.new ≡ [])) (λ price.
+            self.old ≡ price.0 ∷ self.new) }
     {
         if self.below > 0
             && (self.above >= self.grid.len()

@@ -211,7 +211,8 @@ fn entry_of(
 #[tactic(auto, unfolding(crate::specs::AuctionFile::line_entry))]
 fn read_line(before: Option<EvenGrid>, line: u32, text: &[u8]) -> Result<Entry, ReadError>
     requires { IfSome before IsEvenGrid }
-    ensures exact { MatchResult result (λ entry. line_entry before line text.now ≡ Ok entry) (λ e. Fails e (line_entry before line text.now)) }
+    ensures exact { MatchResult result (λ entry. line_entry before line text.now ≡ Ok entry) (λ e.
+        Fails e (line_entry before line text.now)) }
     ensures sound { IfOk result (IsFileEntry before) }
 {
     let entry = match checked_words(line, text) {

@@ -26,7 +26,8 @@ pub(crate) fn write_certificate<O: Sink>(
     requires on_grid { All (λ o. IsOnGrid grid.now o.spot) orders.now }
     requires fits { FitsSums orders.now }
     requires reference { reference < length grid.now }
-    requires attempt { (lo : ℕ) × (hi : ℕ) × IsAttempt grid.now orders.now (price_at grid.now reference) lo hi outcome.now }
+    requires attempt { (lo : ℕ) × (hi : ℕ)
+        × IsAttempt grid.now orders.now (price_at grid.now reference) lo hi outcome.now }
     ensures all { OnOk result (Appends (O.contents out.old) (O.contents out.new)
         (certificate_text (certificate_of grid.now orders.now (price_at grid.now reference) outcome.now))) }
     ensures part { OnErr result (AppendsPart (O.contents out.old) (O.contents out.new)
@@ -51,7 +52,8 @@ fn print_certificate<O: Sink>(
     requires on_grid { All (λ o. IsOnGrid grid.now o.spot) orders.now }
     requires fits { FitsSums orders.now }
     requires reference { reference < length grid.now }
-    requires attempt { (lo : ℕ) × (hi : ℕ) × IsAttempt grid.now orders.now (price_at grid.now reference) lo hi outcome.now }
+    requires attempt { (lo : ℕ) × (hi : ℕ)
+        × IsAttempt grid.now orders.now (price_at grid.now reference) lo hi outcome.now }
     requires at_start { in_line printer.old ≡ false }
     ensures same_sink { printer.new.sink.ghost_name ≡ printer.old.sink.ghost_name }
     ensures printed { (from : O) (bytes : List ℕ) → Printed O.contents O.faults from bytes printer.old

@@ -42,7 +42,9 @@ impl<'a, O: Sink> Printer<'a, O> {
     /// Adds a word to the line.
     pub fn word(&mut self, text: &str)
         ensures same_sink { self.new.sink.ghost_name ≡ self.old.sink.ghost_name }
-        ensures printed { (from : O) (bytes : List ℕ) → Printed O.contents O.faults from bytes self.old → Printed O.contents O.faults from (bytes ++ spaced (in_line self.old) text.now) self.new }
+        ensures printed { (from : O) (bytes : List ℕ)
+            → Printed O.contents O.faults from bytes self.old
+            → Printed O.contents O.faults from (bytes ++ spaced (in_line self.old) text.now) self.new }
         ensures in_line { in_line self.new ≡ true }
     {
         self.put_word(text.as_bytes());
@@ -51,7 +53,9 @@ impl<'a, O: Sink> Printer<'a, O> {
     /// Adds a number's decimal digits to the line, as a word.
     pub fn number(&mut self, n: u64)
         ensures same_sink { self.new.sink.ghost_name ≡ self.old.sink.ghost_name }
-        ensures printed { (from : O) (bytes : List ℕ) → Printed O.contents O.faults from bytes self.old → Printed O.contents O.faults from (bytes ++ spaced (in_line self.old) (decimal n)) self.new }
+        ensures printed { (from : O) (bytes : List ℕ)
+            → Printed O.contents O.faults from bytes self.old
+            → Printed O.contents O.faults from (bytes ++ spaced (in_line self.old) (decimal n)) self.new }
         ensures in_line { in_line self.new ≡ true }
     {
         let mut text = [0; DIGITS];
@@ -62,7 +66,9 @@ impl<'a, O: Sink> Printer<'a, O> {
     /// Adds a moment to the line, as a word HH:MM:SS.mmm.
     pub fn moment(&mut self, at: Moment)
         ensures same_sink { self.new.sink.ghost_name ≡ self.old.sink.ghost_name }
-        ensures printed { (from : O) (bytes : List ℕ) → Printed O.contents O.faults from bytes self.old → Printed O.contents O.faults from (bytes ++ spaced (in_line self.old) (time_text at)) self.new }
+        ensures printed { (from : O) (bytes : List ℕ)
+            → Printed O.contents O.faults from bytes self.old
+            → Printed O.contents O.faults from (bytes ++ spaced (in_line self.old) (time_text at)) self.new }
         ensures in_line { in_line self.new ≡ true }
     {
         self.put_word(&moment_text(at.ms()));
@@ -71,7 +77,9 @@ impl<'a, O: Sink> Printer<'a, O> {
     /// Ends the line by LF.
     pub fn line_end(&mut self)
         ensures same_sink { self.new.sink.ghost_name ≡ self.old.sink.ghost_name }
-        ensures printed { (from : O) (bytes : List ℕ) → Printed O.contents O.faults from bytes self.old → Printed O.contents O.faults from (bytes ++ 10 ∷ []) self.new }
+        ensures printed { (from : O) (bytes : List ℕ)
+            → Printed O.contents O.faults from bytes self.old
+            → Printed O.contents O.faults from (bytes ++ 10 ∷ []) self.new }
         ensures in_line { in_line self.new ≡ false }
     {
         self.put(b"\n");
@@ -88,7 +96,9 @@ impl<'a, O: Sink> Printer<'a, O> {
     // Adds the bytes of a word to the line, behind a space where a word stands before it.
     fn put_word(&mut self, bytes: &[u8])
         ensures same_sink { self.new.sink.ghost_name ≡ self.old.sink.ghost_name }
-        ensures printed { (from : O) (before : List ℕ) → Printed O.contents O.faults from before self.old → Printed O.contents O.faults from (before ++ spaced (in_line self.old) bytes.now) self.new }
+        ensures printed { (from : O) (before : List ℕ)
+            → Printed O.contents O.faults from before self.old
+            → Printed O.contents O.faults from (before ++ spaced (in_line self.old) bytes.now) self.new }
         ensures in_line { in_line self.new ≡ true }
     {
         if self.in_line {
@@ -103,7 +113,9 @@ impl<'a, O: Sink> Printer<'a, O> {
     // Adds bytes to the block, which is written out first where they do not fit.
     fn put(&mut self, bytes: &[u8])
         ensures same_sink { self.new.sink.ghost_name ≡ self.old.sink.ghost_name }
-        ensures printed { (from : O) (before : List ℕ) → Printed O.contents O.faults from before self.old → Printed O.contents O.faults from (before ++ bytes.now) self.new }
+        ensures printed { (from : O) (before : List ℕ)
+            → Printed O.contents O.faults from before self.old
+            → Printed O.contents O.faults from (before ++ bytes.now) self.new }
         ensures in_line { in_line self.new ≡ in_line self.old }
     {
         if bytes.len() <= self.block.room() {
@@ -118,7 +130,9 @@ impl<'a, O: Sink> Printer<'a, O> {
     fn put_first(&mut self, bytes: &[u8])
         requires { self.old.block ≡ [] }
         ensures same_sink { self.new.sink.ghost_name ≡ self.old.sink.ghost_name }
-        ensures printed { (from : O) (before : List ℕ) → Printed O.contents O.faults from before self.old → Printed O.contents O.faults from (before ++ bytes.now) self.new }
+        ensures printed { (from : O) (before : List ℕ)
+            → Printed O.contents O.faults from before self.old
+            → Printed O.contents O.faults from (before ++ bytes.now) self.new }
         ensures in_line { in_line self.new ≡ in_line self.old }
     {
         if bytes.len() <= self.block.room() {
@@ -131,7 +145,9 @@ impl<'a, O: Sink> Printer<'a, O> {
     // Writes out the block.
     fn flush(&mut self)
         ensures same_sink { self.new.sink.ghost_name ≡ self.old.sink.ghost_name }
-        ensures printed { (from : O) (before : List ℕ) → Printed O.contents O.faults from before self.old → Printed O.contents O.faults from before self.new }
+        ensures printed { (from : O) (before : List ℕ)
+            → Printed O.contents O.faults from before self.old
+            → Printed O.contents O.faults from before self.new }
         ensures in_line { in_line self.new ≡ in_line self.old }
         ensures empty { self.new.block ≡ [] }
     {
@@ -142,9 +158,16 @@ impl<'a, O: Sink> Printer<'a, O> {
     /// Writes what is left in the block, and answers a fault that is kept. At `Ok` all that was printed is
     /// written, and at `Err` a part of it from its front on.
     pub fn finish(self) -> Result<(), WriteFault>
-        ensures all { (from : O) (bytes : List ℕ) → Printed O.contents O.faults from bytes self.entry → OnOk result (Appends (O.contents from) (O.contents self.exit.0.now) bytes) }
-        ensures part { (from : O) (bytes : List ℕ) → Printed O.contents O.faults from bytes self.entry → OnErr result (AppendsPart (O.contents from) (O.contents self.exit.0.now) bytes × Rises (O.faults from) (O.faults self.exit.0.now)) }
-        ensures count { (from : O) (bytes : List ℕ) → Printed O.contents O.faults from bytes self.entry → O.faults from ≤ O.faults self.exit.0.now }
+        ensures all { (from : O) (bytes : List ℕ)
+            → Printed O.contents O.faults from bytes self.entry
+            → OnOk result (Appends (O.contents from) (O.contents self.exit.0.now) bytes) }
+        ensures part { (from : O) (bytes : List ℕ)
+            → Printed O.contents O.faults from bytes self.entry
+            → OnErr result (AppendsPart (O.contents from) (O.contents self.exit.0.now) bytes
+            × Rises (O.faults from) (O.faults self.exit.0.now)) }
+        ensures count { (from : O) (bytes : List ℕ)
+            → Printed O.contents O.faults from bytes self.entry
+            → O.faults from ≤ O.faults self.exit.0.now }
     {
         let Printer {
             sink,

@@ -24,7 +24,8 @@ pub trait Shelf {
         requires { Contains (names self.old) name.now }
         ensures names { names self.new ≡ names self.old }
         ensures files { files self.new ≡ files self.old }
-        ensures chosen { OnOk result (IfSome (files self.old) (λ file. IsSomeAnd (file name.now) (λ bytes. left self.new ≡ Some bytes))) }
+        ensures chosen { OnOk result (IfSome (files self.old) (λ file.
+            IsSomeAnd (file name.now) (λ bytes. left self.new ≡ Some bytes))) }
         ensures failed { OnErr result (Rises (faults self.old) (faults self.new)) }
         ensures count { faults self.old ≤ faults self.new };
 
@@ -35,8 +36,10 @@ pub trait Shelf {
         ensures names { names self.new ≡ names self.old }
         ensures files { files self.new ≡ files self.old }
         ensures within { IfOk result (λ n. n ≤ length buf.old) }
-        ensures moved { IfOk result (λ n. IfSome (left self.old) (λ bytes. (take n buf.new ≡ take n bytes) × (n ≤ length bytes))) }
-        ensures left { IfOk result (λ n. IfSome (left self.old) (λ bytes. left self.new ≡ Some (drop n bytes))) }
+        ensures moved { IfOk result (λ n. IfSome (left self.old) (λ bytes.
+            (take n buf.new ≡ take n bytes) × (n ≤ length bytes))) }
+        ensures left { IfOk result (λ n. IfSome (left self.old) (λ bytes.
+            left self.new ≡ Some (drop n bytes))) }
         ensures end { IfOk result (λ n. IfSome (left self.old) (λ bytes. n ≡ 0 → bytes ≡ [])) }
         ensures unchanged { OnErr result (left self.new ≡ left self.old) }
         ensures failed { OnErr result (Rises (faults self.old) (faults self.new)) }
@@ -63,7 +66,8 @@ pub fn read_whole<F: Shelf>(
     limit: u64,
 ) -> Result<Vec<u8>, ReadFault>
     requires { Contains (F.names shelf.old) name.now }
-    ensures bytes { IfOk result (λ read. IfSome (F.files shelf.old) (λ file. IsSomeAnd (file name.now) (λ bytes. read.items ≡ take (limit + 1) bytes))) }
+    ensures bytes { IfOk result (λ read. IfSome (F.files shelf.old) (λ file.
+        IsSomeAnd (file name.now) (λ bytes. read.items ≡ take (limit + 1) bytes))) }
     ensures within { IfOk result (λ read. length read.items ≤ limit + 1) }
     ensures failed { IsErrOf result ReadFault.Read → Rises (F.faults shelf.old) (F.faults shelf.new) }
     ensures names { F.names shelf.new ≡ F.names shelf.old }

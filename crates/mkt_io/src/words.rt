@@ -32,7 +32,8 @@ impl<'a> Words<'a> {
 
     /// Takes the next word off the front. None where no word is left.
     pub fn next(&mut self) -> Option<&'a [u8]>
-        ensures { MatchOption result ((self.old ≡ []) × (self.new ≡ [])) (λ word. self.old ≡ word.now ∷ self.new) }
+        ensures { MatchOption result ((self.old ≡ []) × (self.new ≡ [])) (λ word.
+            self.old ≡ word.now ∷ self.new) }
     {
         let (word, rest) = cut_word(without_blanks(self.rest))?;
         self.rest = rest;
@@ -42,7 +43,8 @@ impl<'a> Words<'a> {
     /// Takes the first word of a line that says something. None where the line is skipped: it has no word, or
     /// its first word begins with `#`.
     pub fn first(&mut self) -> Option<&'a [u8]>
-        ensures { MatchOption result (is_skipped self.old ≡ true) (λ word. (is_skipped self.old ≡ false) × (self.old ≡ word.now ∷ self.new)) }
+        ensures { MatchOption result (is_skipped self.old ≡ true) (λ word.
+            (is_skipped self.old ≡ false) × (self.old ≡ word.now ∷ self.new)) }
     {
         let word = self.next()?;
         if word.first() == Some(&b'#') {
@@ -53,7 +55,8 @@ impl<'a> Words<'a> {
 
     /// Takes the next word where one is wanted: that none is left is a fault.
     pub fn wanted(&mut self) -> Result<&'a [u8], LineFault>
-        ensures { MatchResult result (λ word. self.old ≡ word.now ∷ self.new) (λ fault. (self.old ≡ []) × (fault ≡ LineFault.Word)) }
+        ensures { MatchResult result (λ word. self.old ≡ word.now ∷ self.new) (λ fault.
+            (self.old ≡ []) × (fault ≡ LineFault.Word)) }
     {
         self.next().ok_or(LineFault::Word)
     }
@@ -93,7 +96,8 @@ fn without_blanks(line: &[u8]) -> &[u8]
 // The word that a line begins with, and what stands behind it. None where the line is empty.
 fn cut_word(line: &[u8]) -> Option<(&[u8], &[u8])>
     requires { IfSome (slice_get line.now 0) (λ byte. is_blank byte ≡ false) }
-    ensures { MatchOption result (words line.now ≡ []) (λ parts. words line.now ≡ parts.0.now ∷ words parts.1.now) }
+    ensures { MatchOption result (words line.now ≡ []) (λ parts.
+        words line.now ≡ parts.0.now ∷ words parts.1.now) }
 {
     if line.is_empty() {
         return None;
@@ -129,7 +133,8 @@ pub fn number_word(word: &[u8]) -> Option<u32>
 // What at most 10 digits stand for. None where a byte is no digit.
 fn digits_value(word: &[u8]) -> Option<u64>
     requires { length word.now ≤ 10 }
-    ensures { MatchOption result (list_all is_digit word.now ≡ false) (λ value. (list_all is_digit word.now ≡ true) × (value ≡ digits_value word.now)) }
+    ensures { MatchOption result (list_all is_digit word.now ≡ false) (λ value.
+        (list_all is_digit word.now ≡ true) × (value ≡ digits_value word.now)) }
 {
     let mut value = 0u64;
     for byte in word {
