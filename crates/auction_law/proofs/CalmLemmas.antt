@@ -1,5 +1,5 @@
 -- Lemmas on the best bid, the best ask, and whether nobody presses.
-use Rattle.std.proofs.Common.{◌≡◌, ℕ, ◌+◌, ◌<◌, ◌≤◌, Bool, true, false, not, nat_le, ◌&&◌, ◌||◌, min, max, List, [], ◌∷◌, ◌++◌, length, get_or, take, take_all, Option, Some, None, option_map, is_some, is_none, refl, sym, ap, ◌∙◌, arith}
+use Rattle.std.proofs.Common.{◌≡◌, ℕ, ◌+◌, ◌<◌, ◌≤◌, Bool, true, false, not, nat_le, ◌&&◌, ◌||◌, min, max, List, [], ◌∷◌, ◌++◌, length, get_or, take, take_all, Option, Some, None, option_map, refl, sym, ap, ◌∙◌, arith}
 use Rattle.std.specs.List.{list_any, cons_option}
 use Rattle.std.proofs.lemmas.List.{take_more}
 use Rattle.std.proofs.lemmas.List.Elements.{filter_map-append}
@@ -133,8 +133,3 @@ calm-by_best grid orders bid ask limited crossing b a l c =
     let e : list_any (λ bid. list_any (λ ask. nat_le ask bid) (limits grid false orders)) (limits grid true orders) ≡ crossing =
     any-crosses (limits grid true orders) (limits grid false orders) ∙ ap (λ x. crosses x (least (limits grid false orders))) (sym gb) ∙ ap (crosses (option_map (λ p. p.0) bid)) (sym ga) ∙ sym c in
     ap (λ x. all_limited grid orders && not x) e ∙ ap (λ x. x && not crossing) (sym l)
-
--- whether the limit is there
-pub is_some-number : (p : Option Price) (limit : Option ℕ) → option_map (λ q. q.0) p ≡ limit → is_some limit ≡ not (is_none p)
-is_some-number None limit e = ap is_some (sym e)
-is_some-number (Some p) limit e = ap is_some (sym e)

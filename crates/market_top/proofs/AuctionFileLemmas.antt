@@ -1,9 +1,8 @@
 -- What holds of an auction while its file is read.
-use Rattle.std.proofs.Common.{◌≡◌, ℕ, ◌+◌, ◌≤◌, Bool, true, false, cond, ltb, List, [], ◌∷◌, length-append, Option, Some, None, Result, Ok, Err, IfOk, IfSome, refl, sym, ap, ◌∙◌, arith, rules}
+use Rattle.std.proofs.Common.{◌≡◌, ℕ, ◌+◌, ◌≤◌, Bool, true, false, cond, ltb, List, [], ◌∷◌, length-append, Option, Some, None, Result, Ok, Err, IfOk, refl, sym, ap, ◌∙◌, arith, rules}
 use Rattle.std.proofs.lemmas.Bool.Decides.{nat_tests}
 use Rattle.mkt_io.specs.LineFault.{checked_words, number_in}
 use Rattle.mkt_io.specs.declared.fault.LineFault.{LineFault}
-use Rattle.market_top.specs.EvenGrid.{IsEvenGrid}
 use Rattle.std.proofs.lemmas.List.Elements.{All-push}
 use Rattle.market_top.specs.AuctionFile.{Auction, IsFileAuction, IsFileEntry, IsFileOrder, ◌>>=◌, at_line, auction_of, entry_of, grid_read, line_entry, read_lines, with_entry}
 use Rattle.std.specs.Option.{ok_or}
@@ -25,10 +24,6 @@ number_in-range low high word = grind (arith, nat_tests)
 abbrev pub IsSoundBefore : ℕ → Option Auction → Type 0
 IsSoundBefore number None = Unit {0}
 IsSoundBefore number (Some auction) = IsFileAuction number auction
-
-pub grid-IsSoundBefore : (number : ℕ) (before : Option Auction) → IsSoundBefore number before → IfSome (grid_read before) IsEvenGrid
-grid-IsSoundBefore number None sound = tt
-grid-IsSoundBefore number (Some auction) sound = sound.grid
 
 -- a step that fails at a test gives an answer only where the test is false
 passed : {A B : Type 0} (b : Bool) (number : ℕ) (fault : LineFault) (read : Result A LineFault) (then : A → Result B LineFault) (x : B)
@@ -107,9 +102,3 @@ pub Gives-at_end : (bytes : List ℕ) (before : Option AuctionFile) (number : �
 unfolding read_lines
 Gives-at_end bytes None number left rest none = sym rest ∙ ap (read_lines None number) none
 Gives-at_end bytes (Some file) number left rest none = sym rest ∙ ap (read_lines (Some (meaning_of file)) number) none
-
-pub Sound-at_end : (before : Option AuctionFile) (number : ℕ) (e : ReadError) → IsSoundBefore number (read_so_far before) → number ≤ 500001
-    → IfOk (ok_or before e) (λ file. IsFileAuction 500001 (meaning_of file))
-Sound-at_end None number e sound limit = tt
-Sound-at_end (Some file) number e sound limit =
-    record { grid = sound.grid; reference = sound.reference; orders = sound.orders; few = omega (arith, sound.few) }

@@ -19,10 +19,6 @@ spot_on_grid grid (At i) within = omega (arith, length-grid_prices grid, within)
 pub orders_on_grid : (grid : EvenGrid) (orders : List Order) → All (IsFileOrder grid) orders → All (λ o. IsOnGrid (grid_prices grid) o.spot) orders
 orders_on_grid grid orders = All-weaker (IsFileOrder grid) (λ o. IsOnGrid (grid_prices grid) o.spot) (λ o is. spot_on_grid grid o.spot is.spot) orders
 
--- each order has something left
-pub orders_left : (grid : EvenGrid) (orders : List Order) → All (IsFileOrder grid) orders → All (λ o. 0 < o.left) orders
-orders_left grid orders = All-weaker (IsFileOrder grid) (λ o. 0 < o.left) (λ o is. omega (arith, is.left)) orders
-
 at_most : (b : Bool) (left : ℕ) → left ≤ 100000000 → cond b left 0 ≤ 100000000
 at_most true left h = h
 at_most false left h = omega arith

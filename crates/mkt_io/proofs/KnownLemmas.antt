@@ -1,5 +1,5 @@
 -- Known bytes that grow in several steps, and counts of faults that rise in one of them.
-use Rattle.std.proofs.Common.{◌≡◌, ℕ, ◌+◌, ◌≤◌, inl, inr, List, [], ◌++◌, Option, Some, None, take, drop, sym, ap, ◌∙◌, append_assoc, arith, rules}
+use Rattle.std.proofs.Common.{◌≡◌, ℕ, ◌+◌, ◌≤◌, inl, inr, List, ◌++◌, Option, Some, None, take, drop, sym, ap, ◌∙◌, append_assoc, arith}
 use Rattle.std.proofs.Math.Seq.{take-add}
 use Rattle.std.specs.Io.KnownBytes.{Appends}
 use Rattle.mkt_io.specs.Faults.{Rises}
@@ -10,11 +10,6 @@ Appends-then None b c xs ys f g = tt
 Appends-then (Some a) None c xs ys f g = absurd f
 Appends-then (Some a) (Some b) None xs ys f g = absurd g
 Appends-then (Some a) (Some b) (Some c) xs ys f g = g ∙ ap (λ z. z ++ ys) f ∙ append_assoc a xs ys
-
--- nothing changes when nothing is appended
-pub Appends-nothing : (a : Option (List ℕ)) → Appends a a []
-Appends-nothing None = tt
-Appends-nothing (Some a) = search rules
 
 -- the same bytes under another name
 pub Appends-same : (a b : Option (List ℕ)) (xs ys : List ℕ) → xs ≡ ys → Appends a b xs → Appends a b ys
