@@ -147,8 +147,8 @@ fn ask_of(grid: &[Price], order: &Order) -> Option<Price>
 
 // The higher of two prices, where there are any.
 fn higher(first: Option<Price>, second: Option<Price>) -> Option<Price>
-    ensures { option_map (λ p. p.0) result ≡ higher (option_map (λ p. p.0) first) (option_map (λ p.
-        p.0) second) }
+    ensures { option_map (λ p. p.0) result
+        ≡ higher (option_map (λ p. p.0) first) (option_map (λ p. p.0) second) }
 {
     match (first, second) {
         (Some(a), Some(b)) => Some(if a < b { b } else { a }),
@@ -159,8 +159,8 @@ fn higher(first: Option<Price>, second: Option<Price>) -> Option<Price>
 
 // The lower of two prices, where there are any.
 fn lower(first: Option<Price>, second: Option<Price>) -> Option<Price>
-    ensures { option_map (λ p. p.0) result ≡ lower (option_map (λ p. p.0) first) (option_map (λ p.
-        p.0) second) }
+    ensures { option_map (λ p. p.0) result
+        ≡ lower (option_map (λ p. p.0) first) (option_map (λ p. p.0) second) }
 {
     match (first, second) {
         (Some(a), Some(b)) => Some(if b < a { b } else { a }),

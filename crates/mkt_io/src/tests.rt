@@ -33,8 +33,8 @@ fn print_lines<O: Sink>(printer: &mut Printer<'_, O>, numbers: &[u64])
     ensures same_sink { printer.new.sink.ghost_name ≡ printer.old.sink.ghost_name }
     ensures printed { (from : O) (bytes : List ℕ)
         → Printed O.contents O.faults from bytes printer.old
-        → Printed O.contents O.faults from (bytes ++ flat_map (λ n.
-        decimal n ++ 10 ∷ []) numbers.now) printer.new }
+        → Printed O.contents O.faults from
+        (bytes ++ flat_map (λ n. decimal n ++ 10 ∷ []) numbers.now) printer.new }
     ensures in_line { in_line printer.new ≡ false }
 {
     for number in numbers {
