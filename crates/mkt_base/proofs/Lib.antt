@@ -1,1 +1,4 @@
 mod Examples
+pub mod FillLemmas
+pub mod PriorityLemmas
+pub mod TradeLemmas

@@ -1,4 +1,4 @@
-// What an auction answers.
+// What an auction answers, and what is traded.
 use crate::{Price, Side};
 
 /// The four sums of a book at a grid price, in shares.
@@ -35,4 +35,16 @@ pub enum Outcome {
         pressing: u64,
         facing: u64,
     },
+}
+
+/// A trade of two orders, which are named by their places.
+#[derive(Clone, Copy, Debug, PartialEq, Eq)]
+pub struct Trade {
+    pub price: Price,
+    /// The shares, at least 1.
+    pub qty: u64,
+    /// The place of the order that buys.
+    pub buy: u64,
+    /// The place of the order that sells.
+    pub sell: u64,
 }

@@ -1,11 +1,18 @@
 // Orders, and where they stand.
-use crate::{Caller, Participant};
+use crate::{Caller, Participant, Price};
 
 /// Whether an order buys or sells.
 #[derive(Clone, Copy, Debug, PartialEq, Eq)]
 pub enum Side {
     Buy,
     Sell,
+}
+
+/// An order's kind, as it is entered: a market order, or a limit order with its limit price.
+#[derive(Clone, Copy, Debug, PartialEq, Eq)]
+pub enum Kind {
+    Market,
+    Limit(Price),
 }
 
 /// Where an order stands: as a market order, or with its limit at a position of the grid, from 0.
