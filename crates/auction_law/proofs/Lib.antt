@@ -5,4 +5,3 @@ pub mod LawLemmas
 pub mod WalkLemmas
 pub mod ChoiceLemmas
 pub mod CalmLemmas
-pub mod SampleLemmas

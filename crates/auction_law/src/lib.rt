@@ -13,6 +13,3 @@ pub use choice::chosen_sums;
 pub use law::{chosen_is_nearest, one_answer};
 pub use nearness::ByNearness;
 pub use sums::{limit_of, plain_sums};
-
-#[cfg(test)]
-mod tests;

@@ -1,5 +1,1 @@
-mod AuctionFileLemmas
-mod EvenGridLemmas
-mod OrderLemmas
-mod PrintLemmas
 mod VerdictLemmas

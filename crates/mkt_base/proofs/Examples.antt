@@ -1,9 +1,8 @@
 -- Worked examples: the definitions compute to what a reader of the rules would say.
 use Rattle.std.specs.Prelude.{◌≡◌, ℕ, true, false, List, [], ◌∷◌, ◌++◌, map, Some, None, refl, codes}
 use Rattle.std.specs.Fmt.{digits}
-use Rattle.std.specs.List.{join_with_byte}
 use Rattle.mkt_base.specs.Book.{total_left, sums_at, has_priority}
-use Rattle.mkt_base.specs.Fills.{Fill, after_trades, from_front, less_front, pair, traded_at, whole}
+use Rattle.mkt_base.specs.Fills.{Fill, after_trades, from_front, less_front, pair, traded_at}
 use Rattle.mkt_base.specs.Priority.{in_priority}
 use Rattle.mkt_base.specs.ReportWords.{event_words, quote_words, reply_words}
 use Rattle.mkt_base.specs.Text.{line, time_text}

@@ -1,9 +1,9 @@
 -- What is taken from the front of a list, and what a pairing trades.
-use Rattle.std.proofs.Common.{◌≡◌, ◌≢◌, ℕ, ◌+◌, ◌-◌, ◌<◌, ◌≤◌, min, Bool, true, false, cond, ltb, eqb, List, [], ◌∷◌, ◌++◌, map, filter, refl, sym, ap, ◌∙◌, arith}
+use Rattle.std.proofs.Common.{◌≡◌, ℕ, ◌+◌, ◌-◌, min, Bool, true, false, cond, ltb, eqb, List, [], ◌∷◌, map, refl, sym, ap, ◌∙◌, arith}
 use Rattle.std.specs.List.{sum_by}
 use Rattle.std.proofs.lemmas.List.Sums.{sum_by-cons, sum_by-append}
 use Rattle.std.proofs.lemmas.Bool.Decides.{nat_tests}
-use Rattle.mkt_base.specs.Fills.{Fill, bought_at, bought_by, filled, filled_at, from_front, less_front, pair, quantity, sold_at, traded_at}
+use Rattle.mkt_base.specs.Fills.{Fill, bought_at, bought_by, filled, filled_at, from_front, less_front, pair, quantity, sold_at}
 use Rattle.mkt_base.specs.declared.auction.Trade.{Trade}
 
 min-split : (n q rest : ℕ) → min n q + min (n - q) rest ≡ min n (q + rest)

@@ -1,11 +1,11 @@
 -- The levels of a side stand in its priority order.
-use Rattle.std.proofs.Common.{◌≡◌, ℕ, zero, suc, ◌+◌, ◌<◌, ◌≤◌, Bool, true, false, cond, ltb, eqb, not, ◌&&◌, ◌||◌, IsTrue, List, [], ◌∷◌, ◌++◌, length, map, filter, get_or, refl, sym, ap, subst, ◌∙◌, arith}
+use Rattle.std.proofs.Common.{◌≡◌, ℕ, zero, suc, ◌+◌, ◌<◌, ◌≤◌, Bool, true, false, ltb, ◌&&◌, IsTrue, List, [], ◌∷◌, ◌++◌, length, map, get_or, refl, sym, ap, arith}
 use Rattle.std.specs.List.{All, AllByRecursion, AllPairs, flat_map, range_with_len}
 use Rattle.std.proofs.lemmas.Bool.Decides.{nat_tests}
 use Rattle.std.proofs.lemmas.Bool.{eqb-true}
-use Rattle.std.proofs.lemmas.List.Elements.{All-append, All-cons, filter_passes}
+use Rattle.std.proofs.lemmas.List.Elements.{All-append, filter_passes}
 use Rattle.std.proofs.lemmas.List.Kept.{AllPairs-cons, AllPairs-filter}
-use Rattle.mkt_base.specs.Book.{IsInPriority, IsRising, has_priority, is_better, is_buy, price_at}
+use Rattle.mkt_base.specs.Book.{IsInPriority, IsRising, has_priority, is_better, price_at}
 use Rattle.mkt_base.specs.Priority.{falling, in_priority, is_on_level, is_same_side, is_same_spot, level_of, spots}
 use Rattle.mkt_base.specs.declared.units.Price.{Price}
 use Rattle.mkt_base.specs.declared.order.Side.{Side}

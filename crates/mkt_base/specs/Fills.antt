@@ -1,5 +1,5 @@
 -- What orders fill, who trades with whom, and the book after trades.
-use Rattle.std.specs.Prelude.{◌≡◌, ℕ, ◌+◌, ◌-◌, min, Bool, ◌||◌, ◌==◌, List, [], ◌∷◌, ◌++◌, map, filter, sum_by, if◌then◌else◌, nat_lt}
+use Rattle.std.specs.Prelude.{ℕ, ◌-◌, min, ◌||◌, ◌==◌, List, [], ◌∷◌, ◌++◌, map, filter, sum_by, if◌then◌else◌, nat_lt}
 use Rattle.mkt_base.specs.declared.auction.Trade.{Trade}
 use Rattle.mkt_base.specs.declared.order.Order.{Order}
 

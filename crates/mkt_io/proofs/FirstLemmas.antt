@@ -1,8 +1,9 @@
 -- The first place that passes a test.
-use Rattle.std.proofs.Common.{◌≡◌, ℕ, ◌<◌, ◌≤◌, Bool, true, false, cond, ltb, List, Option, Some, None, length, sym, ◌∙◌, arith}
+use Rattle.std.proofs.Common.{◌≡◌, ℕ, ◌<◌, ◌≤◌, Bool, true, false, cond, ltb, List, Option, Some, None, length, slice_index, refl, sym, ◌∙◌, arith}
 use Rattle.std.specs.List.{All, position_or_len}
 use Rattle.std.proofs.lemmas.Bool.Decides.{nat_tests}
-use Rattle.std.proofs.lemmas.List.Sums.{fails_before_first}
+use Rattle.std.proofs.lemmas.List.Sums.{fails_before_first, position_or_len_is}
+use Rattle.memchr.specs.Find.{IsFirstByte}
 
 some-when : (b : Bool) (p at : ℕ) → cond b (Some p) None ≡ Some at → (b ≡ true) × (p ≡ at)
 some-when true p at e = (cc, cc)
@@ -11,6 +12,22 @@ some-when false p at e = absurd (cc)
 none-when : (b : Bool) (p : ℕ) → cond b (Some p) None ≡ None → b ≡ false
 none-when true p e = absurd (cc)
 none-when false p e = cc
+
+not-true : (b : Bool) → ¬ (b ≡ true) → b ≡ false
+not-true true h = absurd (h refl)
+not-true false h = refl
+
+-- the first byte that passes a test
+pub first-byte : (test : ℕ → Bool) (xs : List ℕ) (at : ℕ) → IsFirstByte test xs (Some at) → (position_or_len test xs ≡ at) × (at < length xs)
+first-byte test xs at first =
+    let inside : at < length xs = first.0.high in
+    (position_or_len_is test xs at 0 (omega arith) (λ k h. not-true (test (slice_index xs k)) (first.0.before k (omega arith) h)) (λ _. first.1), inside)
+
+-- no byte passes a test
+pub no-byte : (test : ℕ → Bool) (xs : List ℕ) → IsFirstByte test xs None → All (λ x. test x ≡ false) xs
+no-byte test xs none =
+    let end = position_or_len_is test xs (length xs) 0 (omega arith) (λ k h. not-true (test (slice_index xs k)) (none k (omega arith) h)) (λ h. absurd (omega (arith, h))) in
+    λ k d h. fails_before_first test xs k d (omega (arith, end, h))
 
 -- the place that was found is the first that passes
 pub found-at : (test : ℕ → Bool) (xs : List ℕ) (r : Option ℕ) (at : ℕ) → r ≡ cond (ltb (position_or_len test xs) (length xs)) (Some (position_or_len test xs)) None → r ≡ Some at

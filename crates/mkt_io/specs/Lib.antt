@@ -3,6 +3,8 @@ pub mod LineFault
 pub mod Lines
 pub mod Memory
 pub mod Printed
+pub mod Read
 pub mod Shelf
 pub mod Sink
+pub mod Time
 pub mod Words

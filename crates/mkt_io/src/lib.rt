@@ -12,16 +12,15 @@ mod shelf;
 mod sink;
 mod system;
 mod text;
+mod time;
 mod words;
 
-pub use fault::{LINES_LIMIT, LineFault, checked_words};
+pub use fault::{LINES_LIMIT, LineFault, TextFault, checked_words, too_long};
 pub use lines::{LINE_LIMIT, Lines, Piece};
 pub use memory::{MemFault, MemShelf, MemSink};
 pub use printer::Printer;
 pub use shelf::{ReadFault, Shelf, read_whole};
 pub use sink::{Failed, Sink, WriteFault, write_all};
 pub use system::{FileShelf, StdSink};
-pub use words::{Words, is_text, number_in, number_word};
-
-#[cfg(test)]
-mod tests;
+pub use time::{printed_moments_read_back, time_word};
+pub use words::{Words, is_text, next_number, number_in, number_word, side_of};

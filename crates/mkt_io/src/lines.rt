@@ -3,6 +3,7 @@ ghost use Rattle.std.specs.Prelude.{◌≡◌, ◌<◌, ◌^◌, ◌∷◌, leng
 ghost use Rattle.std.specs.Str.Lines.{strip_carriage_return};
 ghost use Rattle.mkt_io.specs.Lines.{LinesLeft, IsNextPiece, lines};
 
+use memchr::memchr;
 use std::marker::Model;
 
 /// How many bytes a line may have, without its line end.
@@ -74,7 +75,7 @@ fn cut_line(bytes: &[u8]) -> (&[u8], &[u8])
     ensures lines { lines bytes.now ≡ result.0.now ∷ lines result.1.now }
     ensures shorter { length result.1.now < length bytes.now }
 {
-    match bytes.iter().position(|b| *b == b'\n') {
+    match memchr(b'\n', bytes) {
         Some(at) => (without_return(&bytes[..at]), &bytes[at + 1..]),
         None => (without_return(bytes), &[]),
     }

@@ -1,14 +1,13 @@
 // A printer: lines of words, gathered in a block before they are written.
-ghost use Rattle.std.specs.Prelude.{◌≡◌, ◌<◌, ◌≤◌, ◌↔◌, ℕ, List, Option, length, take, IsTrue, OnOk, OnErr, [], ◌∷◌, ◌++◌, true, false};
-ghost use Rattle.std.specs.Io.KnownBytes.{Appends, Keeps};
+ghost use Rattle.std.specs.Prelude.{◌≡◌, ◌+◌, ◌≤◌, ℕ, List, length, [], ◌∷◌, ◌++◌};
 ghost use Rattle.std.specs.Fmt.{decimal};
-ghost use Rattle.mkt_base.specs.Text.{time_text};
-ghost use Rattle.mkt_io.specs.Faults.{Rises};
+ghost use Rattle.mkt_base.specs.Text.{line, time_text};
 ghost use Rattle.mkt_io.specs.Printed.{Emitted};
-ghost use Rattle.mkt_io.specs.Sink.{AppendsPart};
+ghost use Rattle.mkt_io.specs.Sink.{Writes};
+ghost use Rattle.mkt_io.specs.declared.block.TheConstants.{BLOCK};
 
 use crate::block::Block;
-use crate::text::{DIGITS, encode_decimal, moment_text};
+use crate::text::{DIGITS, moment_text};
 use crate::{Sink, WriteFault, write_all};
 use mkt_base::Moment;
 
@@ -20,16 +19,15 @@ pub struct Printer<'a, O: Sink> {
     fault: bool,
 }
 
-// The clauses `same_sink` name the private field `sink`: the borrow checker reads in them that the printer still
-// holds the reference that it was made over. No other clause names a private field.
+// Words and lines are told by `PrintsWords` and `PrintsLines`: they name the private field `sink`, in which the borrow
+// checker reads that the printer still holds the reference that it was made over.
 impl<'a, O: Sink> Printer<'a, O> {
-    ghost use Rattle.mkt_io.specs.Printed.{Printed, in_line, has_fault, spaced};
+    ghost use Rattle.mkt_io.specs.Printed.{EndsLine, Handed, Printed, PrintsLines, PrintsWords, has_fault, with_words};
 
     /// A printer that has printed nothing.
     pub fn new(sink: &'a mut O) -> Printer<'a, O>
         ensures same_sink { result.sink.ghost_name ≡ sink.entry.ghost_name }
-        ensures nothing { Printed O.contents O.faults sink.old [] result }
-        ensures at_start { in_line result ≡ false }
+        ensures nothing { Printed O.contents O.faults sink.old [] [] result }
     {
         Printer {
             sink,
@@ -40,49 +38,39 @@ impl<'a, O: Sink> Printer<'a, O> {
     }
 
     /// Adds a word to the line.
+    #[inline(always)]
     pub fn word(&mut self, text: &str)
-        ensures same_sink { self.new.sink.ghost_name ≡ self.old.sink.ghost_name }
-        ensures printed { (from : O) (bytes : List ℕ)
-            → Printed O.contents O.faults from bytes self.old
-            → Printed O.contents O.faults from (bytes ++ spaced (in_line self.old) text.now) self.new }
-        ensures in_line { in_line self.new ≡ true }
+        ensures { PrintsWords O.contents O.faults self.old self.new (text.now ∷ []) }
     {
         self.put_word(text.as_bytes());
     }
 
     /// Adds a number's decimal digits to the line, as a word.
+    #[inline]
     pub fn number(&mut self, n: u64)
-        ensures same_sink { self.new.sink.ghost_name ≡ self.old.sink.ghost_name }
-        ensures printed { (from : O) (bytes : List ℕ)
-            → Printed O.contents O.faults from bytes self.old
-            → Printed O.contents O.faults from (bytes ++ spaced (in_line self.old) (decimal n)) self.new }
-        ensures in_line { in_line self.new ≡ true }
+        ensures { PrintsWords O.contents O.faults self.old self.new (decimal n ∷ []) }
     {
-        let mut text = [0; DIGITS];
-        let start = encode_decimal(n, &mut text);
-        self.put_word(&text[start..]);
+        self.make_room(DIGITS + 1);
+        self.block.push_space(self.in_line);
+        self.block.extend_decimal(n);
+        self.in_line = true;
     }
 
     /// Adds a moment to the line, as a word HH:MM:SS.mmm.
+    #[inline]
     pub fn moment(&mut self, at: Moment)
-        ensures same_sink { self.new.sink.ghost_name ≡ self.old.sink.ghost_name }
-        ensures printed { (from : O) (bytes : List ℕ)
-            → Printed O.contents O.faults from bytes self.old
-            → Printed O.contents O.faults from (bytes ++ spaced (in_line self.old) (time_text at)) self.new }
-        ensures in_line { in_line self.new ≡ true }
+        ensures { PrintsWords O.contents O.faults self.old self.new (time_text at ∷ []) }
     {
         self.put_word(&moment_text(at.ms()));
     }
 
     /// Ends the line by LF.
+    #[inline]
     pub fn line_end(&mut self)
-        ensures same_sink { self.new.sink.ghost_name ≡ self.old.sink.ghost_name }
-        ensures printed { (from : O) (bytes : List ℕ)
-            → Printed O.contents O.faults from bytes self.old
-            → Printed O.contents O.faults from (bytes ++ 10 ∷ []) self.new }
-        ensures in_line { in_line self.new ≡ false }
+        ensures { EndsLine O.contents O.faults self.old self.new }
     {
-        self.put(b"\n");
+        self.make_room(1);
+        self.block.push(b'\n');
         self.in_line = false;
     }
 
@@ -94,12 +82,24 @@ impl<'a, O: Sink> Printer<'a, O> {
     }
 
     // Adds the bytes of a word to the line, behind a space where a word stands before it.
+    #[inline(always)]
     fn put_word(&mut self, bytes: &[u8])
-        ensures same_sink { self.new.sink.ghost_name ≡ self.old.sink.ghost_name }
-        ensures printed { (from : O) (before : List ℕ)
-            → Printed O.contents O.faults from before self.old
-            → Printed O.contents O.faults from (before ++ spaced (in_line self.old) bytes.now) self.new }
-        ensures in_line { in_line self.new ≡ true }
+        ensures { PrintsWords O.contents O.faults self.old self.new (bytes.now ∷ []) }
+    {
+        if bytes.len() >= self.block.room() {
+            self.put_word_at_end(bytes);
+            return;
+        }
+        self.block.push_space(self.in_line);
+        self.block.extend(bytes);
+        self.in_line = true;
+    }
+
+    // Adds a word that what is left of the block does not hold, with a space.
+    #[cold]
+    #[inline(never)]
+    fn put_word_at_end(&mut self, bytes: &[u8])
+        ensures { PrintsWords O.contents O.faults self.old self.new (bytes.now ∷ []) }
     {
         if self.in_line {
             self.put(b" ");
@@ -110,13 +110,29 @@ impl<'a, O: Sink> Printer<'a, O> {
         }
     }
 
+    // Writes out the block where it has not so much room.
+    #[inline]
+    fn make_room(&mut self, bytes: usize)
+        requires { bytes ≤ BLOCK }
+        ensures same_sink { self.new.sink.ghost_name ≡ self.old.sink.ghost_name }
+        ensures handed { (from : O) (before : List ℕ)
+            → Handed O.contents O.faults from before self.old
+            → Handed O.contents O.faults from before self.new }
+        ensures in_line { self.new.in_line ≡ self.old.in_line }
+        ensures room { length self.new.block + bytes ≤ BLOCK }
+    {
+        if self.block.room() < bytes {
+            self.flush();
+        }
+    }
+
     // Adds bytes to the block, which is written out first where they do not fit.
     fn put(&mut self, bytes: &[u8])
         ensures same_sink { self.new.sink.ghost_name ≡ self.old.sink.ghost_name }
-        ensures printed { (from : O) (before : List ℕ)
-            → Printed O.contents O.faults from before self.old
-            → Printed O.contents O.faults from (before ++ bytes.now) self.new }
-        ensures in_line { in_line self.new ≡ in_line self.old }
+        ensures handed { (from : O) (before : List ℕ)
+            → Handed O.contents O.faults from before self.old
+            → Handed O.contents O.faults from (before ++ bytes.now) self.new }
+        ensures in_line { self.new.in_line ≡ self.old.in_line }
     {
         if bytes.len() <= self.block.room() {
             self.block.extend(bytes);
@@ -130,10 +146,10 @@ impl<'a, O: Sink> Printer<'a, O> {
     fn put_first(&mut self, bytes: &[u8])
         requires { self.old.block ≡ [] }
         ensures same_sink { self.new.sink.ghost_name ≡ self.old.sink.ghost_name }
-        ensures printed { (from : O) (before : List ℕ)
-            → Printed O.contents O.faults from before self.old
-            → Printed O.contents O.faults from (before ++ bytes.now) self.new }
-        ensures in_line { in_line self.new ≡ in_line self.old }
+        ensures handed { (from : O) (before : List ℕ)
+            → Handed O.contents O.faults from before self.old
+            → Handed O.contents O.faults from (before ++ bytes.now) self.new }
+        ensures in_line { self.new.in_line ≡ self.old.in_line }
     {
         if bytes.len() <= self.block.room() {
             self.block.extend(bytes);
@@ -143,12 +159,14 @@ impl<'a, O: Sink> Printer<'a, O> {
     }
 
     // Writes out the block.
+    #[cold]
+    #[inline(never)]
     fn flush(&mut self)
         ensures same_sink { self.new.sink.ghost_name ≡ self.old.sink.ghost_name }
-        ensures printed { (from : O) (before : List ℕ)
-            → Printed O.contents O.faults from before self.old
-            → Printed O.contents O.faults from before self.new }
-        ensures in_line { in_line self.new ≡ in_line self.old }
+        ensures handed { (from : O) (before : List ℕ)
+            → Handed O.contents O.faults from before self.old
+            → Handed O.contents O.faults from before self.new }
+        ensures in_line { self.new.in_line ≡ self.old.in_line }
         ensures empty { self.new.block ≡ [] }
     {
         self.fault = emit(self.sink, self.fault, self.block.as_slice());
@@ -158,16 +176,9 @@ impl<'a, O: Sink> Printer<'a, O> {
     /// Writes what is left in the block, and answers a fault that is kept. At `Ok` all that was printed is
     /// written, and at `Err` a part of it from its front on.
     pub fn finish(self) -> Result<(), WriteFault>
-        ensures all { (from : O) (bytes : List ℕ)
-            → Printed O.contents O.faults from bytes self.entry
-            → OnOk result (Appends (O.contents from) (O.contents self.exit.0.now) bytes) }
-        ensures part { (from : O) (bytes : List ℕ)
-            → Printed O.contents O.faults from bytes self.entry
-            → OnErr result (AppendsPart (O.contents from) (O.contents self.exit.0.now) bytes
-            × Rises (O.faults from) (O.faults self.exit.0.now)) }
-        ensures count { (from : O) (bytes : List ℕ)
-            → Printed O.contents O.faults from bytes self.entry
-            → O.faults from ≤ O.faults self.exit.0.now }
+        ensures { (from : O) (text : List ℕ) (words : List (List ℕ))
+            → Printed O.contents O.faults from text words self.entry
+            → Writes O.contents O.faults from (with_words text words) self.exit.0.now result }
     {
         let Printer {
             sink,

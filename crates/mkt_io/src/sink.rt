@@ -1,8 +1,8 @@
 // Where bytes go to.
-ghost use Rattle.std.specs.Prelude.{◌≡◌, ◌<◌, ◌≤◌, ℕ, List, Option, length, take, IfOk, OnOk, OnErr};
+ghost use Rattle.std.specs.Prelude.{◌≡◌, ◌<◌, ◌≤◌, ℕ, List, Option, length, take, IfOk, OnErr};
 ghost use Rattle.std.specs.Io.KnownBytes.{Appends, Keeps};
 ghost use Rattle.mkt_io.specs.Faults.{Rises};
-ghost use Rattle.mkt_io.specs.Sink.{AppendsPart};
+ghost use Rattle.mkt_io.specs.Sink.{Writes};
 
 /// A call failed: the object's count of faults rose.
 #[derive(Clone, Copy, Debug, PartialEq, Eq)]
@@ -33,10 +33,7 @@ pub trait Sink {
 
 /// Writes all the bytes. After a fault a part of them from their front on has been written.
 pub fn write_all<O: Sink>(sink: &mut O, bytes: &[u8]) -> Result<(), WriteFault>
-    ensures all { OnOk result (Appends (O.contents sink.old) (O.contents sink.new) bytes.now) }
-    ensures part { OnErr result (AppendsPart (O.contents sink.old) (O.contents sink.new) bytes.now) }
-    ensures failed { OnErr result (Rises (O.faults sink.old) (O.faults sink.new)) }
-    ensures count { O.faults sink.old ≤ O.faults sink.new }
+    ensures { Writes O.contents O.faults sink.old bytes.now sink.new result }
 {
     let mut written = 0;
     while written < bytes.len() {

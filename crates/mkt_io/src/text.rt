@@ -1,29 +1,69 @@
-// The texts of numbers and of moments.
-ghost use Rattle.std.specs.Prelude.{◌≡◌, ◌+◌, ◌≤◌, ◌<◌, drop};
+// The texts of numbers and of moments, and copies of short texts.
+ghost use Rattle.std.specs.Prelude.{◌≡◌, ◌+◌, ◌≤◌, ◌<◌, length};
 ghost use Rattle.std.specs.Fmt.{decimal};
 ghost use Rattle.mkt_base.specs.Text.{time_text};
+ghost use Rattle.mkt_io.specs.declared.text.TheConstants.{DIGITS};
 
-/// How many bytes the digits of a number are written into: more than the 20 that they are at most.
-pub(crate) const DIGITS: usize = 64;
+/// How many digits a number has at most.
+pub(crate) const DIGITS: usize = 20;
 
-// Writes the digits of a number at the end of `out`, and answers where they begin.
-pub(crate) fn encode_decimal(n: u64, out: &mut [u8; DIGITS]) -> usize
-    ensures bound { result ≤ DIGITS }
-    ensures value { drop result out.new ≡ decimal n }
+// How many digits a number has. Four of them are counted at a time, since a division costs most.
+#[inline]
+pub(crate) fn digit_count(n: u64) -> usize
+    ensures count { result ≡ length (decimal n) }
+    ensures few { result ≤ DIGITS }
 {
-    let mut i = DIGITS;
+    let mut count = 0;
     let mut rest = n;
-    while i > 0 {
-        i -= 1;
-        out[i] = digit((rest % 10) as u32);
-        rest /= 10;
-        if rest == 0 {
-            break;
-        }
+    while rest >= 10_000 {
+        rest /= 10_000;
+        count += 4;
     }
-    i
+    count + short_count(rest as u32)
 }
 
+// How many digits a number below 10,000 has.
+#[inline]
+fn short_count(n: u32) -> usize
+    requires { n < 10000 }
+    ensures { result ≡ length (decimal n) }
+{
+    if n < 10 {
+        1
+    } else if n < 100 {
+        2
+    } else if n < 1_000 {
+        3
+    } else {
+        4
+    }
+}
+
+// Writes the digits of a number into as many bytes as there are, two at a time from the last on.
+#[inline]
+pub(crate) fn write_decimal(n: u64, out: &mut [u8])
+    requires { length out.old ≡ length (decimal n) }
+    ensures { out.new ≡ decimal n }
+{
+    let mut at = out.len();
+    let mut rest = n;
+    while rest >= 100 {
+        let pair = (rest % 100) as u32;
+        rest /= 100;
+        at -= 2;
+        out[at] = digit(pair / 10);
+        out[at + 1] = digit(pair % 10);
+    }
+    let last = rest as u32;
+    if last >= 10 {
+        out[0] = digit(last / 10);
+        out[1] = digit(last % 10);
+    } else {
+        out[0] = digit(last);
+    }
+}
+
+#[inline]
 fn digit(n: u32) -> u8
     requires { n < 10 }
     ensures { result ≡ 48 + n }
@@ -32,6 +72,7 @@ fn digit(n: u32) -> u8
 }
 
 // A moment of the day, as HH:MM:SS.mmm.
+#[inline]
 pub(crate) fn moment_text(ms: u32) -> [u8; 12]
     requires { ms < 86400000 }
     ensures { result ≡ time_text ms }
@@ -50,4 +91,36 @@ pub(crate) fn moment_text(ms: u32) -> [u8; 12]
         digit(ms % 1_000 % 100 / 10),
         digit(ms % 1_000 % 100 % 10),
     ]
+}
+
+// Copies a text. One of 4 to 16 bytes is copied by two pieces of a constant length, which may overlap: that is
+// faster than a copy whose length the compiler does not know.
+#[inline(always)]
+pub(crate) fn copy_text(out: &mut [u8], text: &[u8])
+    requires { length out.old ≡ length text.now }
+    ensures { out.new ≡ text.now }
+{
+    let n = text.len();
+    if n > 16 {
+        out.copy_from_slice(text);
+    } else if n >= 8 {
+        out[..8].copy_from_slice(&text[..8]);
+        out[n - 8..].copy_from_slice(&text[n - 8..]);
+    } else if n >= 4 {
+        out[..4].copy_from_slice(&text[..4]);
+        out[n - 4..].copy_from_slice(&text[n - 4..]);
+    } else {
+        copy_bytes(out, text);
+    }
+}
+
+// Copies a text byte by byte.
+#[inline(always)]
+fn copy_bytes(out: &mut [u8], text: &[u8])
+    requires { length out.old ≡ length text.now }
+    ensures { out.new ≡ text.now }
+{
+    for i in 0..text.len() {
+        out[i] = text[i];
+    }
 }

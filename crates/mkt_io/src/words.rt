@@ -1,10 +1,11 @@
 // The words of a line, and the numbers among them.
-ghost use Rattle.std.specs.Prelude.{◌≡◌, ◌≤◌, [], ◌∷◌, length, true, false, slice_get, IfSome, MatchOption, MatchResult};
+ghost use Rattle.std.specs.Prelude.{◌≡◌, ◌≤◌, ◌↔◌, [], ◌∷◌, length, true, false, slice_get, IsTrue, IfOk, IfSome, MatchOption, MatchResult};
 ghost use Rattle.mkt_io.specs.Words.{is_blank, is_digit, is_text_byte, digits_value, number_of, words};
-ghost use Rattle.mkt_io.specs.LineFault.{is_skipped, no_more, number_in};
+ghost use Rattle.mkt_io.specs.LineFault.{is_skipped, next_number, no_more, number_in, side_of};
 ghost use Rattle.std.specs.List.{list_all};
 
 use crate::LineFault;
+use mkt_base::Side;
 use std::marker::Model;
 
 /// The words that are left of a line. Spaces and tabs stand between words, and at the ends of a line.
@@ -61,6 +62,13 @@ impl<'a> Words<'a> {
         self.next().ok_or(LineFault::Word)
     }
 
+    /// Whether no word is left.
+    pub fn at_end(&self) -> bool
+        ensures { IsTrue result ↔ (self.now ≡ []) }
+    {
+        cut_word(without_blanks(self.rest)).is_none()
+    }
+
     /// Ends the line: a word that is left is a fault.
     pub fn end(&mut self) -> Result<(), LineFault>
         ensures { result ≡ no_more self.old }
@@ -75,7 +83,8 @@ impl<'a> Words<'a> {
 fn is_blank(byte: u8) -> bool
     ensures { result ≡ is_blank byte }
 {
-    byte == b' ' || byte == b'\t'
+    // (one test tells almost every other byte)
+    byte <= b' ' && (byte == b' ' || byte == b'\t')
 }
 
 // A line without the blanks that it begins with.
@@ -112,8 +121,34 @@ fn cut_word(line: &[u8]) -> Option<(&[u8], &[u8])>
 pub fn is_text(line: &[u8]) -> bool
     ensures { result ≡ list_all is_text_byte line.now }
 {
-    line.iter()
-        .all(|byte| *byte == b'\t' || (32..=126).contains(byte))
+    let n = line.len();
+    if n < PIECE {
+        return all_text(line);
+    }
+    // Whole pieces, and the last bytes as one more piece, which may overlap them: a byte by itself takes as long as a piece.
+    all_text(&line[..n - n % PIECE]) & all_text(&line[n - PIECE..])
+}
+
+// How many bytes are tested at a time.
+const PIECE: usize = 8;
+
+#[inline(always)]
+fn all_text(bytes: &[u8]) -> bool
+    ensures { result ≡ list_all is_text_byte bytes.now }
+{
+    let mut all = true;
+    for byte in bytes {
+        all &= is_text_byte(*byte);
+    }
+    all
+}
+
+// Whether a byte is a tab or one of 32 to 126, without a branch: so the compiler tests many bytes at a time.
+#[inline]
+fn is_text_byte(byte: u8) -> bool
+    ensures { result ≡ is_text_byte byte }
+{
+    (byte == b'\t') | (byte.wrapping_sub(32) <= 94)
 }
 
 #[tactic(auto, unfolding(crate::specs::Words::number_of))]
@@ -154,5 +189,27 @@ pub fn number_in(word: &[u8], low: u32, high: u32) -> Result<u32, LineFault>
     match number_word(word) {
         Some(n) if low <= n && n <= high => Ok(n),
         _ => Err(LineFault::Number),
+    }
+}
+
+#[tactic(auto, unfolding(crate::specs::LineFault::next_number))]
+/// Takes the next word, as a number from `low` to `high`. That none is left, and any other word, is a fault.
+pub fn next_number(words: &mut Words<'_>, low: u32, high: u32) -> Result<u32, LineFault>
+    ensures exact { MatchResult result (λ n. next_number low high words.old ≡ Ok (n, words.new)) (λ fault.
+        next_number low high words.old ≡ Err fault) }
+    ensures range { IfOk result (λ n. (low ≤ n) × (n ≤ high)) }
+{
+    let word = words.wanted()?;
+    number_in(word, low, high)
+}
+
+/// The side of the word `buy` or `sell`. Any other word is a fault.
+pub fn side_of(word: &[u8]) -> Result<Side, LineFault>
+    ensures { result ≡ side_of word.now }
+{
+    match word {
+        b"buy" => Ok(Side::Buy),
+        b"sell" => Ok(Side::Sell),
+        _ => Err(LineFault::Word),
     }
 }

@@ -1,0 +1,3 @@
+mod EvenGridLemmas
+mod OrderLemmas
+mod ReaderLemmas

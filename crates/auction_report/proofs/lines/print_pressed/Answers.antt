@@ -1,0 +1,5 @@
+use Rattle.mkt_io.specs.Printed.{◌and_then◌, ended}
+use Rattle.auction_report.proofs.lines.print_pressed.Goals as goal
+
+pub returns : goal.returns
+returns g c = rw c.from.ensures at (ended (c.word.ensures and_then c.print_side.ensures and_then c.number.ensures and_then c.number-2.ensures and_then c.number-3.ensures) c.line_end.ensures)

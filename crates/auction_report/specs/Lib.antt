@@ -1,0 +1,5 @@
+pub use Rattle.mkt_base.specs.Book
+pub use Rattle.mkt_base.specs.Certificate
+pub use Rattle.auction_law.specs.Attempt
+pub use Rattle.auction_law.specs.Nearness
+pub mod Scan

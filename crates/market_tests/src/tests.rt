@@ -1,0 +1,6 @@
+mod base;
+mod law;
+mod printing;
+mod program;
+mod shelves;
+mod text;

@@ -1,0 +1,31 @@
+use Rattle.std.proofs.Common.{◌≡◌, ℕ, Err, refl, sym, ap, ◌∙◌, inl, inr, arith}
+use Rattle.mkt_io.specs.declared.fault.LineFault.{LineFault}
+use Rattle.auction_file.specs.AuctionFile.{auction_of}
+use Rattle.market_top.specs.Auction.{refused_file}
+use Rattle.market_top.specs.Verdict.{no_memory, not_read}
+use Rattle.market_top.proofs.VerdictLemmas.{Answered-by, Delivered-told}
+use Rattle.market_top.proofs.auction.run_auction.Goals as goal
+
+pub returns-in-Err-Read : goal.returns-in-Err-Read
+returns-in-Err-Read g c =
+    Answered-by _ _ _ _ _ _ _ _ _ _ _ _ _ not_read _
+    (inl (refl, c.read_whole.ensures.failed (c.in-Err-Read.is ∙ ap Err c.in-Err-Read.field-0-is)))
+    (Delivered-told _ _ _ _ not_read _ _ _ _ refl c.tell.ensures) (omega arith)
+
+pub returns-in-Err-Memory : goal.returns-in-Err-Memory
+returns-in-Err-Memory g c =
+    Answered-by _ _ _ _ _ _ _ _ _ _ _ _ _ no_memory _ (inr (inl refl))
+    (Delivered-told _ _ _ _ no_memory _ _ _ _ refl c.tell-in-Err-Memory.ensures) (omega arith)
+
+pub returns-in-Err-At : goal.returns-in-Err-At
+returns-in-Err-At g c =
+    let fault : ℕ × LineFault = (c.in-Err-At.line, c.in-Err-At.fault) in
+    let exact = rw c.in-Err-At.field-0-is at c.in-Err-At.ensures.exact in
+    let said : auction_of c.in-Ok.bytes.items ≡ Err fault = ap auction_of (sym c.deref.ensures.value) ∙ exact in
+    Answered-by _ _ _ _ _ _ _ _ _ _ _ _ _ (refused_file fault) _ (inr (inr (c.in-Ok.bytes.items, c.in-Ok.ensures.bytes, rw said refl)))
+    (Delivered-told _ _ _ _ (refused_file fault) _ _ _ _ refl (rw (c.in-Err-At.line-is, c.in-Err-At.fault-is) at c.tell_fault.ensures)) (omega arith)
+
+pub returns : goal.returns
+returns g c =
+    Answered-by _ _ _ _ _ _ _ _ _ _ _ _ _ no_memory _ (inr (inl refl))
+    (Delivered-told _ _ _ _ no_memory _ _ _ _ refl c.tell-in-Err-Memory-read.ensures) (omega arith)
