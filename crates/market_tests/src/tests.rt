@@ -1,4 +1,5 @@
 mod base;
+mod grid;
 mod law;
 mod printing;
 mod program;

@@ -1,0 +1,6 @@
+pub mod MultipleLemmas
+pub mod RowLemmas
+pub mod GridLemmas
+pub mod StepLemmas
+pub mod EndLemmas
+mod Examples

@@ -1,0 +1,4 @@
+pub mod Grid
+pub mod Laws
+pub mod Range
+pub mod Rows
