@@ -1,3 +1,4 @@
 mod EvenGridLemmas
 mod OrderLemmas
 mod ReaderLemmas
+mod SlotLemmas

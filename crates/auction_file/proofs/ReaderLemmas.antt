@@ -1,8 +1,8 @@
 -- What holds of an auction while its file is read.
-use Rattle.std.proofs.Common.{◌≡◌, ℕ, ◌+◌, ◌≤◌, false, ltb, List, [], ◌∷◌, length-append, Option, Some, None, Ok, Err, IfOk, refl, sym, ap, ◌∙◌, arith, rules}
+use Rattle.std.proofs.Common.{◌≡◌, ℕ, ◌+◌, ◌≤◌, true, false, not, ltb, List, [], ◌∷◌, length-append, Option, Some, None, Ok, Err, IfOk, MatchResult, All, refl, sym, ap, subst, ◌∙◌, arith, rules}
 use Rattle.std.proofs.lemmas.Bool.Decides.{nat_tests}
 use Rattle.mkt_io.specs.LineFault.{◌>>=◌, checked_words}
-use Rattle.mkt_io.specs.Read.{Gives}
+use Rattle.mkt_io.specs.Read.{Fails}
 use Rattle.mkt_io.proofs.ReadLemmas.{passed}
 use Rattle.mkt_io.specs.declared.fault.TextFault.TheVariants as faults
 use Rattle.mkt_io.specs.declared.fault.LineFault.{LineFault}
@@ -10,10 +10,13 @@ use Rattle.std.proofs.lemmas.List.Elements.{All-push}
 use Rattle.auction_file.specs.AuctionFile.{Auction, IsFileAuction, IsFileEntry, IsFileOrder, IsSound, auction_of, entry_of, grid_read, line_entry, read_lines, with_entry}
 use Rattle.std.specs.Option.{ok_or}
 use Rattle.mkt_io.specs.declared.fault.LineFault.TheVariants.{Word}
-use Rattle.auction_file.specs.EvenGrid.{EvenGrid}
-use Rattle.auction_file.specs.Meaning.{meaning_of, read_so_far}
+use Rattle.auction_file.specs.EvenGrid.{EvenGrid, IsEvenGrid}
+use Rattle.auction_file.specs.LevelList.{HasRoom, IsWithin}
+use Rattle.auction_file.specs.Meaning.{HasRoomFor, IsAlike, IsReadOf, IsReadSoFar, grid_so_far, merged_of}
+use Rattle.mkt_base.specs.Book.{is_buy}
+use Rattle.mkt_base.specs.declared.order.Order.{Order}
 use Rattle.auction_file.proofs.EvenGridLemmas.{IsRising-grid_prices, length-grid_prices}
-use Rattle.auction_file.proofs.OrderLemmas.{orders_fit, orders_left, orders_on_grid}
+use Rattle.auction_file.proofs.OrderLemmas.{levels_on_grid, orders_fit, total_left-le}
 use Rattle.auction_file.specs.declared.reader.AuctionFile.{AuctionFile}
 use Rattle.auction_file.specs.declared.reader.Entry.{Entry}
 use Rattle.auction_file.specs.declared.reader.Entry.TheVariants as entries
@@ -82,27 +85,64 @@ module _ (bytes : List ℕ) (before : Option Auction) (number : ℕ) (left : Lis
       ap (λ a. read_lines a (here + 1) more) is ∙ sym (read_lines-entry before here line more entry e)
       ∙ sym (ap (λ n. read_lines before n (line ∷ more)) same) ∙ sym (ap (read_lines before number) next) ∙ rest
 
--- where no line is left, what has been read is what the file says
-pub Gives-at_end : (bytes : List ℕ) (before : Option AuctionFile) (number : ℕ) (left : List (List ℕ))
-    → read_lines (read_so_far before) number left ≡ auction_of bytes → left ≡ [] → Gives meaning_of (ok_or before (faults.At number Word)) (auction_of bytes)
+-- where no line is left, what has been read stands for what the file says
+pub MatchResult-at_end : (bytes : List ℕ) (before : Option AuctionFile) (said : Option Auction) (number : ℕ) (left : List (List ℕ)) → IsReadSoFar before said
+    → read_lines said number left ≡ auction_of bytes → left ≡ []
+    → MatchResult (ok_or before (faults.At number Word)) (λ file. (a : Auction) × (auction_of bytes ≡ Ok a) × IsAlike (merged_of file) a) (λ e. Fails e (auction_of bytes))
 unfolding read_lines
-Gives-at_end bytes None number left rest none = sym rest ∙ ap (read_lines None number) none
-Gives-at_end bytes (Some file) number left rest none = sym rest ∙ ap (read_lines (Some (meaning_of file)) number) none
+MatchResult-at_end bytes None None number left read rest none = sym rest ∙ ap (read_lines None number) none
+MatchResult-at_end bytes None (Some a) number left read rest none = absurd read
+MatchResult-at_end bytes (Some file) None number left read rest none = absurd read
+MatchResult-at_end bytes (Some file) (Some a) number left read rest none =
+    (a, sym rest ∙ ap (read_lines (Some a) number) none, record { grid = read.grid; reference = read.reference; levels = read.orders.levels })
 
--- an auction of at most 500,000 lines is sound
-pub IsSound-read : (number : ℕ) (auction : Auction) → IsFileAuction number auction → number ≤ 500001 → IsSound auction
-IsSound-read number auction read limit = record {
-  grid = read.grid;
-  prices = length-grid_prices auction.grid;
-  reference = read.reference;
-  rising = IsRising-grid_prices auction.grid read.grid;
-  on_grid = orders_on_grid auction.grid auction.orders read.orders;
-  left = orders_left auction.grid auction.orders read.orders;
-  fits = orders_fit auction.grid auction.orders read.orders (omega (arith, read.few));
+-- what has been read of the grid
+pub grid-same : (before : Option AuctionFile) (said : Option Auction) → IsReadSoFar before said → grid_so_far before ≡ grid_read said
+grid-same None None read = refl
+grid-same None (Some a) read = absurd read
+grid-same (Some file) None read = absurd read
+grid-same (Some file) (Some a) read = ap Some read.grid
+
+-- there is room for one order more
+HasRoom-read : (file : AuctionFile) (a : Auction) (number : ℕ) (order : Order) → IsReadOf file a → IsFileAuction number a → number ≤ 500001 → IsFileOrder file.grid order
+    → HasRoom file.levels order
+HasRoom-read file a number order read sound limit is = record {
+  within = subst (λ count. IsWithin count order.spot) (ap (λ (g : EvenGrid). g.count) read.grid ∙ sym read.count) is.spot;
+  left = is.left;
+  few = omega (arith, read.orders.few, sound.few);
+  fits = omega (arith, read.orders.levels.sums (λ side spot. true), total_left-le a.grid (λ o. true) a.orders sound.orders, sound.few, is.limit);
 }
 
+pub HasRoomFor-read : (before : Option AuctionFile) (said : Option Auction) (number : ℕ) (entry : Entry) → IsReadSoFar before said → IsSoundBefore number said → number ≤ 500001
+    → IsFileEntry (grid_so_far before) entry → HasRoomFor before entry
+HasRoomFor-read None said number entry read sound limit fits = tt
+HasRoomFor-read (Some file) None number entry read sound limit fits = absurd read
+HasRoomFor-read (Some file) (Some a) number entries.Skipped read sound limit fits = tt
+HasRoomFor-read (Some file) (Some a) number (entries.Grid grid position) read sound limit fits = tt
+HasRoomFor-read (Some file) (Some a) number (entries.Order order) read sound limit fits = HasRoom-read file a number order read sound limit fits
+
+-- at most 500,000 lines give a sound auction
+IsSound-read : (file : AuctionFile) (a : Auction) (number : ℕ) → IsReadOf file a → IsFileAuction number a → number ≤ 500001 → IsSound (merged_of file)
+IsSound-read file a number read sound limit =
+    let same : file.grid.count ≡ a.grid.count = ap (λ (g : EvenGrid). g.count) read.grid in
+    let grid : IsEvenGrid file.grid = subst IsEvenGrid (sym read.grid) sound.grid in
+    let fits = orders_fit a.grid a.orders sound.orders (omega (arith, sound.few)) in
+    record {
+      grid = grid;
+      prices = length-grid_prices file.grid;
+      reference = omega (arith, read.reference, sound.reference, same);
+      rising = IsRising-grid_prices file.grid grid;
+      on_grid = levels_on_grid file.grid file.levels.orders a.orders read.orders.levels (subst (λ g. All (IsFileOrder g) a.orders) (sym read.grid) sound.orders);
+      left = read.orders.left;
+      fits = record {
+        bought = omega (arith, read.orders.levels.sums (λ side spot. is_buy side), fits.bought);
+        sold = omega (arith, read.orders.levels.sums (λ side spot. not (is_buy side)), fits.sold);
+      };
+    }
+
 -- what has been read at the end is sound
-pub IsSound-at_end : (before : Option AuctionFile) (number last : ℕ) → IsSoundBefore number (read_so_far before) → number ≤ 500001
-    → IfOk (ok_or before (faults.At last Word)) (λ file. IsSound (meaning_of file))
-IsSound-at_end None number last sound limit = tt
-IsSound-at_end (Some file) number last sound limit = IsSound-read number (meaning_of file) sound limit
+pub IsSound-at_end : (before : Option AuctionFile) (said : Option Auction) (number last : ℕ) → IsReadSoFar before said → IsSoundBefore number said → number ≤ 500001
+    → IfOk (ok_or before (faults.At last Word)) (λ file. IsSound (merged_of file))
+IsSound-at_end None said number last read sound limit = tt
+IsSound-at_end (Some file) None number last read sound limit = absurd read
+IsSound-at_end (Some file) (Some a) number last read sound limit = IsSound-read file a number read sound limit

@@ -13,6 +13,7 @@ use Rattle.mkt_io.specs.LineFault.{◌>>=◌, at_line, checked_words, is_skipped
 use Rattle.mkt_io.specs.declared.fault.LineFault.{LineFault}
 use Rattle.mkt_io.specs.declared.fault.LineFault.TheVariants.{Word, Number}
 use Rattle.auction_file.specs.EvenGrid.{EvenGrid, IsEvenGrid, grid_prices, position_on}
+use Rattle.auction_file.specs.LevelList.{IsWithin}
 use Rattle.auction_file.specs.declared.reader.Entry.{Entry}
 use Rattle.auction_file.specs.declared.reader.Entry.TheVariants as entries
 
@@ -99,11 +100,6 @@ read_lines before number (line ∷ more) = do
 abbrev pub auction_of : List ℕ → Result Auction (ℕ × LineFault)
 auction_of bytes = read_lines None 1 (lines bytes)
 
--- a market order, or a position below the count
-abbrev pub IsWithin : ℕ → Spot → Type 0
-IsWithin count Market = Unit {0}
-IsWithin count (At position) = position < count
-
 -- what holds of each order of an auction that was read
 pub record IsFileOrder (grid : EvenGrid) (o : Order) : Type 0 where
   pub spot : IsWithin grid.count o.spot
@@ -124,7 +120,7 @@ pub record IsFileAuction (number : ℕ) (auction : Auction) : Type 0 where
   pub orders : All (IsFileOrder auction.grid) auction.orders
   pub few : length auction.orders < number
 
--- what holds of each auction that a file says: all that an attempt over its whole grid needs
+-- what holds of each auction that was read: all that an attempt over its whole grid needs
 pub record IsSound (auction : Auction) : Type 0 where
   pub grid : IsEvenGrid auction.grid
   pub prices : length (grid_prices auction.grid) ≡ auction.grid.count

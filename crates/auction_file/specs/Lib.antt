@@ -3,6 +3,8 @@ pub use Rattle.mkt_io.specs.LineFault
 pub use Rattle.mkt_io.specs.Lines
 pub use Rattle.mkt_io.specs.Read
 pub use Rattle.mkt_io.specs.Words
+pub use Rattle.auction_law.specs.Levels
 pub mod AuctionFile
 pub mod EvenGrid
+pub mod LevelList
 pub mod Meaning

@@ -2,7 +2,9 @@
 #![tactic(auto)]
 
 mod grid;
+mod levels;
 mod reader;
 
 pub use grid::EvenGrid;
+pub use levels::Levels;
 pub use reader::AuctionFile;

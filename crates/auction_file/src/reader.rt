@@ -1,12 +1,13 @@
 // The auction file: a grid with a reference, and an order a line.
-ghost use Rattle.std.specs.Prelude.{◌≡◌, ◌<◌, ◌≤◌, ◌^◌, ℕ, List, length, IfErr, IfOk, IfSome, MatchResult, OnOk};
+ghost use Rattle.std.specs.Prelude.{◌≡◌, ◌<◌, ◌≤◌, ◌^◌, ℕ, List, length, IfErr, IfOk, IfSome, MatchResult, OnOk, Option, Ok};
 ghost use Rattle.mkt_io.specs.LineFault.{checked_words};
-ghost use Rattle.mkt_io.specs.Read.{Fails, Gives};
+ghost use Rattle.mkt_io.specs.Read.{Fails};
 ghost use Rattle.auction_file.specs.EvenGrid.{IsEvenGrid};
-ghost use Rattle.auction_file.specs.AuctionFile.{IsFileEntry, IsSound, IsWithin, auction_of, entry_of, grid_from, grid_line, grid_read, line_entry, order_line, position_in, spot_of, with_entry};
-ghost use Rattle.auction_file.specs.Meaning.{meaning_of, read_so_far};
+ghost use Rattle.auction_file.specs.AuctionFile.{Auction, IsFileEntry, IsSound, auction_of, entry_of, grid_from, grid_line, line_entry, order_line, position_in, spot_of, with_entry};
+ghost use Rattle.auction_file.specs.LevelList.{IsWithin};
+ghost use Rattle.auction_file.specs.Meaning.{HasRoomFor, IsAlike, IsReadSoFar, grid_so_far, merged_of};
 
-use crate::EvenGrid;
+use crate::{EvenGrid, Levels};
 use mkt_base::{Caller, Order, Participant, Side, Spot};
 use mkt_io::{
     LineFault, Lines, Piece, TextFault, Words, checked_words, next_number, number_word, side_of,
@@ -40,16 +41,19 @@ pub struct AuctionFile {
     pub grid: EvenGrid,
     /// The position of the reference on the grid.
     pub reference: u32,
-    /// The orders, by the lines that they stand in.
-    pub orders: Vec<Order>,
+    /// The orders, those of a level as one.
+    pub levels: Levels,
 }
 
 impl AuctionFile {
-    /// Reads a file of fewer than 2^32 bytes: what it says, or its first fault.
+    /// Reads a file of fewer than 2^32 bytes: what it says, or its first fault. The orders of a level are read into one, by
+    /// which an auction answers as it does by all of them.
     pub fn read(alloc: Global, bytes: &[u8]) -> Result<AuctionFile, TextFault>
         requires { length bytes.now < 2 ^ 32 }
-        ensures exact { Gives meaning_of result (auction_of bytes.now) }
-        ensures sound { IfOk result (λ file. IsSound (meaning_of file)) }
+        ensures exact { MatchResult result
+            (λ file. (a : Auction) × (auction_of bytes.now ≡ Ok a) × IsAlike (merged_of file) a)
+            (λ e. Fails e (auction_of bytes.now)) }
+        ensures sound { IfOk result (λ file. IsSound (merged_of file)) }
     {
         let mut lines = Lines::new(bytes);
         let mut before = None;
@@ -62,7 +66,7 @@ impl AuctionFile {
                     return Err(TextFault::At { line, fault });
                 }
                 Piece::Line { number: line, text } => {
-                    let entry = read_line(grid_read(&before), line, text)?;
+                    let entry = read_line(grid_so_far(&before), line, text)?;
                     add_entry(alloc, &mut before, entry)?;
                     number = line + 1;
                 }
@@ -194,8 +198,8 @@ fn read_line(before: Option<EvenGrid>, line: u32, text: &[u8]) -> Result<Entry, 
     entry.map_err(|fault| TextFault::At { line, fault })
 }
 
-fn grid_read(before: &Option<AuctionFile>) -> Option<EvenGrid>
-    ensures { result ≡ grid_read (read_so_far before.now) }
+fn grid_so_far(before: &Option<AuctionFile>) -> Option<EvenGrid>
+    ensures { result ≡ grid_so_far before.now }
 {
     match before {
         None => None,
@@ -205,21 +209,24 @@ fn grid_read(before: &Option<AuctionFile>) -> Option<EvenGrid>
 
 // Adds what a line says to what has been read.
 fn add_entry(alloc: Global, before: &mut Option<AuctionFile>, entry: Entry) -> Result<(), TextFault>
-    ensures ok { OnOk result (read_so_far before.new ≡ with_entry (read_so_far before.old) entry) }
+    requires { HasRoomFor before.old entry }
+    ensures ok { OnOk result ((said : Option Auction) → IsReadSoFar before.old said
+        → IsReadSoFar before.new (with_entry said entry)) }
     ensures memory { IfErr result (λ e. e ≡ TextFault.Memory) }
 {
     match entry {
         Entry::Skipped => {}
         Entry::Grid(grid, reference) => {
+            let levels = Levels::new(alloc, grid.count()).map_err(|_| TextFault::Memory)?;
             *before = Some(AuctionFile {
                 grid,
                 reference,
-                orders: Vec::new(alloc),
+                levels,
             });
         }
         Entry::Order(order) => {
             if let Some(file) = before {
-                file.orders.push(order).map_err(|_| TextFault::Memory)?;
+                file.levels.add(order).map_err(|_| TextFault::Memory)?;
             }
         }
     }

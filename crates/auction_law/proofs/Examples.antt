@@ -17,8 +17,8 @@ price p = record { 0 = p }
 abbrev grid : List Price
 grid = price 1000 ∷ price 1010 ∷ price 1020 ∷ price 1030 ∷ price 1040 ∷ price 1050 ∷ price 1060 ∷ price 1070 ∷ price 1080 ∷ price 1090 ∷ price 1100 ∷ []
 
-abbrev order : ℕ → Side → Spot → ℕ → Order
-order place side spot left = record { place = place; caller = record { 0 = 0 }; own = 0; participant = record { 0 = 0 }; side = side; spot = spot; left = left }
+abbrev plain_order : ℕ → Side → Spot → ℕ → Order
+plain_order place side spot left = record { place = place; caller = record { 0 = 0 }; own = 0; participant = record { 0 = 0 }; side = side; spot = spot; left = left }
 
 -- of two prices that are equally far, the lower is nearer
 nearest_first : by_nearness 1020 (1000 ∷ 1010 ∷ 1020 ∷ 1030 ∷ 1040 ∷ 1050 ∷ []) ≡ 1020 ∷ 1010 ∷ 1030 ∷ 1000 ∷ 1040 ∷ 1050 ∷ []
@@ -26,7 +26,7 @@ nearest_first = refl
 
 -- a market buy, a limit buy at 1060, a limit sell at 1040 and one at 1070
 abbrev traded : List Order
-traded = order 2 Buy Market 300 ∷ order 3 Buy (At 6) 200 ∷ order 4 Sell (At 4) 400 ∷ order 5 Sell (At 7) 200 ∷ []
+traded = plain_order 2 Buy Market 300 ∷ plain_order 3 Buy (At 6) 200 ∷ plain_order 4 Sell (At 4) 400 ∷ plain_order 5 Sell (At 7) 200 ∷ []
 
 -- 1040 is as near to 1050 as 1060 is, and is ruled out
 chosen_after_a_tie : chosen grid traded 1050 ≡ Some 1060
@@ -39,7 +39,7 @@ both_are_nearer = refl
 
 -- where every price meets the conditions, the reference is chosen
 abbrev wide : List Order
-wide = order 2 Buy (At 10) 100 ∷ order 3 Sell (At 0) 100 ∷ []
+wide = plain_order 2 Buy (At 10) 100 ∷ plain_order 3 Sell (At 0) 100 ∷ []
 
 reference_is_chosen : chosen grid wide 1050 ≡ Some 1050
 unfolding chosen meets total_left
@@ -61,7 +61,7 @@ none_chosen = refl
 
 -- more is bought at any price than is sold at all
 abbrev market_buy : List Order
-market_buy = order 2 Buy Market 500 ∷ order 3 Sell (At 0) 300 ∷ []
+market_buy = plain_order 2 Buy Market 500 ∷ plain_order 3 Sell (At 0) 300 ∷ []
 
 buyers_press : is_pressed_buy grid market_buy 1050 1000 1100 ≡ true
 unfolding is_pressed_buy is_calm is_traded chosen meets total_left
@@ -73,7 +73,7 @@ buyers_alone = refl
 
 -- more is sold at any price than is bought at all
 abbrev market_sell : List Order
-market_sell = order 2 Buy (At 10) 300 ∷ order 3 Sell Market 500 ∷ []
+market_sell = plain_order 2 Buy (At 10) 300 ∷ plain_order 3 Sell Market 500 ∷ []
 
 sellers_press : is_pressed_sell grid market_sell 1050 1000 1100 ≡ true
 unfolding is_pressed_sell is_calm is_traded chosen meets total_left
@@ -81,7 +81,7 @@ sellers_press = refl
 
 -- a limit buy below a limit sell
 abbrev apart : List Order
-apart = order 2 Buy (At 0) 100 ∷ order 3 Sell (At 1) 100 ∷ []
+apart = plain_order 2 Buy (At 0) 100 ∷ plain_order 3 Sell (At 1) 100 ∷ []
 
 nobody_presses : is_calm grid apart ≡ true
 unfolding is_calm
@@ -95,7 +95,7 @@ lowest_sell = refl
 
 -- a market order beside them has to trade
 abbrev apart_and_market : List Order
-apart_and_market = order 1 Sell Market 100 ∷ apart
+apart_and_market = plain_order 1 Sell Market 100 ∷ apart
 
 not_calm_by_a_market_order : is_calm grid apart_and_market ≡ false
 unfolding is_calm

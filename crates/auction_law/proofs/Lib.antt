@@ -5,3 +5,4 @@ pub mod LawLemmas
 pub mod WalkLemmas
 pub mod ChoiceLemmas
 pub mod CalmLemmas
+pub mod LevelLemmas

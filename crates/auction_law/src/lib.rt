@@ -10,6 +10,6 @@ mod sums;
 
 pub use attempt::{best_ask, best_bid, plain_attempt};
 pub use choice::chosen_sums;
-pub use law::{chosen_is_nearest, one_answer};
+pub use law::{chosen_is_nearest, levels_answer_alike, one_answer};
 pub use nearness::ByNearness;
 pub use sums::{limit_of, plain_sums};

@@ -2,8 +2,8 @@
 ghost use Rattle.std.specs.Prelude.{◌≡◌, ◌⊎◌, Some, Ok, Contains};
 ghost use Rattle.mkt_io.specs.Printed.{PrintsLines};
 ghost use Rattle.mkt_io.specs.Sink.{Writes};
-ghost use Rattle.auction_file.specs.AuctionFile.{IsSound};
-ghost use Rattle.auction_file.specs.Meaning.{meaning_of};
+ghost use Rattle.auction_file.specs.AuctionFile.{Auction, IsSound};
+ghost use Rattle.auction_file.specs.Meaning.{IsAlike, merged_of};
 ghost use Rattle.market_top.specs.Auction.{IsFileVerdict, fault_line};
 ghost use Rattle.market_top.specs.Command.{auction};
 ghost use Rattle.market_top.specs.Program.{Answered};
@@ -43,22 +43,24 @@ pub(crate) fn run_auction<F: Shelf, O: Sink, E: Sink>(
     }
 }
 
-// Writes the certificate of an auction that was read.
+// Writes the certificate of an auction that was read. The orders of a level stand together as one there, which answers
+// as all of them do.
 fn hold_auction<O: Sink, E: Sink>(
     alloc: Global,
     file: &AuctionFile,
     out: &mut O,
     err: &mut E,
 ) -> Status
-    requires { IsSound (meaning_of file.now) }
-    ensures { (v : Verdict) × ((v ≡ no_memory) ⊎ IsFileVerdict (Ok (meaning_of file.now)) v)
+    requires { IsSound (merged_of file.now) }
+    ensures { (a : Auction) → IsAlike (merged_of file.now) a
+        → (v : Verdict) × ((v ≡ no_memory) ⊎ IsFileVerdict (Ok a) v)
         × Delivered O.contents O.faults E.contents E.faults v out.old err.old out.new err.new result.0 }
 {
     let Ok(grid) = file.grid.prices(alloc) else {
         return tell(err, "memory\n", Status::NO_MEMORY);
     };
     let prices = grid.as_slice();
-    let orders = file.orders.as_slice();
+    let orders = file.levels.as_slice();
     let last = file.grid.count() - 1;
     let outcome = plain_attempt(orders, prices, file.reference, 0, last);
     match write_certificate(out, orders, prices, file.reference, &outcome) {
