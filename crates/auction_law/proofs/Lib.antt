@@ -1,6 +1,10 @@
 mod Examples
 pub mod NearnessLemmas
 pub mod SumsLemmas
+pub mod MeetsLemmas
+pub mod CalmBookLemmas
+pub mod TradedLemmas
+pub mod PressedLemmas
 pub mod LawLemmas
 pub mod WalkLemmas
 pub mod ChoiceLemmas

@@ -1,7 +1,7 @@
 use Rattle.std.proofs.Common.{sym, ◌∙◌}
 use Rattle.mkt_base.specs.Book.{price_at}
 use Rattle.auction_law.specs.Attempt.{IsAuction}
-use Rattle.auction_law.proofs.LawLemmas.{pressed_buy-answer, pressed_sell-answer}
+use Rattle.auction_law.proofs.PressedLemmas.{pressed_buy-answer, pressed_sell-answer}
 use Rattle.auction_law.proofs.attempt.without_trade.Goals as goal
 
 pub returns-then-high : goal.returns-then-high

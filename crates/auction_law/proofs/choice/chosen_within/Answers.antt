@@ -1,6 +1,6 @@
 use Rattle.std.proofs.Common.{◌≡◌, true, false, Option, Some, None, MatchOption, sym, ◌∙◌}
 use Rattle.mkt_base.specs.declared.auction.Sums.{Sums}
-use Rattle.auction_law.proofs.LawLemmas.{traded-is, traded-none}
+use Rattle.auction_law.proofs.TradedLemmas.{traded-is, traded-none}
 use Rattle.auction_law.proofs.choice.chosen_within.Goals as goal
 
 at_none : (o : Option Sums) (P : Type 0) (Q : Sums → Type 0) → o ≡ None → P → MatchOption o P Q
