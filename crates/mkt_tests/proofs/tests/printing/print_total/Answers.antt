@@ -1,5 +1,5 @@
 use Rattle.std.proofs.Common.{rules}
-use Rattle.market_tests.proofs.tests.printing.print_total.Goals as goal
+use Rattle.mkt_tests.proofs.tests.printing.print_total.Goals as goal
 
 pub returns : goal.returns
 returns g c =

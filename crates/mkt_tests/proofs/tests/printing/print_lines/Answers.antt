@@ -3,7 +3,7 @@ use Rattle.std.specs.Fmt.{decimal}
 use Rattle.mkt_base.specs.Text.{line}
 use Rattle.mkt_io.specs.Printed.{ended}
 use Rattle.mkt_io.proofs.PrintsLemmas.{more_lines}
-use Rattle.market_tests.proofs.tests.printing.print_lines.Goals as goal
+use Rattle.mkt_tests.proofs.tests.printing.print_lines.Goals as goal
 
 pub loop-number-preserved : goal.loop-number-preserved
 loop-number-preserved g c =

@@ -1,0 +1,4 @@
+mod base;
+mod printing;
+mod shelves;
+mod text;
