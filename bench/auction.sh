@@ -1,12 +1,8 @@
 #!/usr/bin/env bash
-# Times `auction` on five files, and prints for each the processor and the wall time of the program in milliseconds, and
-# those of another program beside them with the ratio of this program to it.
+# Times `auction` on five files, and prints for each the processor and the wall time of the program in milliseconds, the
+# ratio to the first row, and the times of another program with the ratios to them (side_by_side.py says how).
 # Usage: bench/auction.sh [OTHER]       OTHER is the path of a program that takes the same words
-#
-# With no OTHER the ratios are to the first row. A time is the best of RUNS runs (7 where the environment does not say),
-# in which the two programs take turns; their output goes to /dev/null. Processor time is user and system time, with the
-# start of the process. Before that each program runs once, and what the two write and their exit statuses are compared:
-# a difference is told, and the status is then 1.
+# RUNS in the environment says how often each runs (7 where it does not).
 top=$(cd "$(dirname "$0")/.." && pwd) || exit 2
 command -v python3 >/dev/null || { echo "auction: this needs python3, which is not on the PATH" >&2; exit 2; }
 if [ $# -gt 0 ] && [ ! -x "$1" ]; then
@@ -44,70 +40,7 @@ write_book 20000 0 100 19000 >"$room/rejected"
 printf 'grid 1000 10 1 1000\n' >"$room/small"
 "$top/market" auction "$room/small" >/dev/null || exit 2
 
-cat >"$room/run.py" <<'PY'
-import os, sys, time
-
-room, runs, programs = sys.argv[1], int(sys.argv[2]), sys.argv[3:]
-WORKLOADS = ["comments", "long comments", "orders", "grid", "rejected"]
-
-
-def run(program, file, out, err):
-    """Runs `PROGRAM auction FILE`, and returns its exit status, processor time and wall time, in milliseconds."""
-    flags = os.O_WRONLY | os.O_CREAT | os.O_TRUNC
-    files = [(os.POSIX_SPAWN_OPEN, 0, os.devnull, os.O_RDONLY, 0)]
-    files += [(os.POSIX_SPAWN_OPEN, at, path, flags, 0o600) for at, path in ((1, out), (2, err))]
-    start = time.perf_counter()
-    pid = os.posix_spawn(program, [program, "auction", file], os.environ, file_actions=files)
-    _, status, used = os.wait4(pid, 0)
-    wall = time.perf_counter() - start
-    return status, 1000 * (used.ru_utime + used.ru_stime), 1000 * wall
-
-
-def whole(path):
-    with open(path, "rb") as it:
-        return it.read()
-
-
-def answer(program, file):
-    """Returns what the program answers: its status and all that it writes."""
-    out, err = f"{room}/out", f"{room}/err"
-    status = run(program, file, out, err)[0]
-    return status, whole(out), whole(err)
-
-
-def best(file):
-    """Returns the least processor and the least wall time of each program."""
-    times = [[] for _ in programs]
-    for _ in range(runs):
-        for program, own in zip(programs, times):
-            own.append(run(program, file, os.devnull, os.devnull)[1:])
-    return [(min(cpu for cpu, _ in own), min(wall for _, wall in own)) for own in times]
-
-
-def table(*rows):
-    widths = [max(map(len, column)) for column in zip(*rows)]
-    for row in rows:
-        print("  ".join([row[0].ljust(widths[0])] + [it.rjust(n) for it, n in zip(row[1:], widths[1:])]))
-
-
-has_other, differing, rows, first = len(programs) > 1, [], [], None
-for name in WORKLOADS:
-    file = f"{room}/{name}"
-    answers = [answer(it, file) for it in programs]
-    for part, *both in zip(("status", "output", "error output"), *answers):
-        if both[0] != both[-1]:
-            differing.append(f"{name}: {part}")
-    times = best(file)
-    first = first or times[0]
-    ratios = [own / beside for own, beside in zip(times[0], times[1] if has_other else first)]
-    rows.append([name, *(f"{it:.2f}" for it in [*times[0], *(times[1] if has_other else ()), *ratios])])
-head = [f"ms, best of {runs}", "cpu", "wall", *["other cpu", "other wall"] * has_other, "cpu ratio", "wall ratio"]
-table(head, *rows)
-if has_other:
-    for it in differing:
-        print(f"auction: the two programs differ in {it}", file=sys.stderr)
-    if differing:
-        sys.exit(1)
-    print("Both programs gave the same bytes and statuses.")
-PY
-python3 "$room/run.py" "$room" "${RUNS:-7}" "$top/out/market" ${1+"$(readlink -f "$1")"}
+for name in comments "long comments" orders grid rejected; do
+    printf '%s\tauction\t%s\n' "$name" "$room/$name"
+done >"$room/workloads"
+python3 "$top/bench/side_by_side.py" "$room" "${RUNS:-7}" first "$top/out/market" ${1+"$(readlink -f "$1")"}

@@ -1,3 +1,4 @@
+mod check;
 mod grid;
 mod law;
 mod program;

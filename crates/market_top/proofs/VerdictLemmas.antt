@@ -7,10 +7,19 @@ use Rattle.mkt_io.specs.Sink.{AppendsPart}
 use Rattle.mkt_io.specs.declared.fault.LineFault.{LineFault}
 use Rattle.mkt_base.specs.declared.auction.Outcome.{Outcome}
 use Rattle.auction_file.specs.AuctionFile.{Auction, auction_of}
-use Rattle.market_top.specs.Auction.{IsFileVerdict, certified}
-use Rattle.market_top.specs.Command.{Asked, auction}
+use Rattle.mkt_io.specs.declared.shelf.ReadFault.{ReadFault}
+use Rattle.mkt_io.specs.declared.shelf.ReadFault.TheVariants.{Read, Memory}
+use Rattle.rules_file.specs.Faults.{Fails, fault_number}
+use Rattle.rules_file.specs.Rules.{rules_of}
+use Rattle.rules_file.specs.declared.fault.RulesFault.{RulesFault}
+use Rattle.rules_file.specs.declared.fault.RulesFault.TheVariants as faults
+use Rattle.rules_report.specs.FaultLine.{fault_line}
+use Rattle.rules_file.specs.declared.rules.Rules.{Rules}
+use Rattle.market_top.specs.Auction.{IsAuctionVerdict, IsFileVerdict, certified}
+use Rattle.market_top.specs.Check.{IsCheckVerdict, OnRules, no_rules, refused_rules, tabled}
+use Rattle.market_top.specs.Command.{Asked, auction, check}
 use Rattle.market_top.specs.Program.{Answered, IsVerdict}
-use Rattle.market_top.specs.Verdict.{Delivered, Told, Verdict}
+use Rattle.market_top.specs.Verdict.{Delivered, IsRead, OnFile, Told, Verdict, unread}
 
 -- nothing is written
 pub Appends-nothing : (known : Option (List ℕ)) → Appends known known []
@@ -35,6 +44,20 @@ module _ {O E : Type 0} (out : O → Option (List ℕ)) (out_faults : O → ℕ)
       by (inl all) = inl (all.0, nothing, all.1)
       by (inr part) = inr (part.0, inr part.1, AppendsPart-nothing (out o) v.out, part.2)
 
+  -- what is written to standard output is the verdict, where nothing goes to standard error
+  pub Delivered-printed : (v : Verdict) (o o' : O) (e : E) (answered : ℕ) → v.err ≡ [] → Told out out_faults v.out v.status o o' answered
+      → Delivered out out_faults err err_faults v o e o' e answered
+  Delivered-printed v o o' e answered none told = record { answer = by told.answer; out_count = told.count; err_count = omega arith }
+    where
+      nothing : Appends (err e) (err e) v.err
+      nothing = subst (λ text. Appends (err e) (err e) text) (sym none) (Appends-nothing (err e))
+
+      by : ((answered ≡ v.status) × Appends (out o) (out o') v.out) ⊎ ((answered ≡ 4) × Rises (out_faults o) (out_faults o') × AppendsPart (out o) (out o') v.out)
+          → ((answered ≡ v.status) × Appends (out o) (out o') v.out × Appends (err e) (err e) v.err)
+          ⊎ ((answered ≡ 4) × (Rises (out_faults o) (out_faults o') ⊎ Rises (err_faults e) (err_faults e)) × AppendsPart (out o) (out o') v.out × AppendsPart (err e) (err e) v.err)
+      by (inl all) = inl (all.0, all.1, nothing)
+      by (inr part) = inr (part.0, inl part.1, part.2, AppendsPart-nothing (err e) v.err)
+
   -- the certificate is written
   pub Delivered-certified : (a : Auction) (outcome : Outcome) (o o' : O) (e : E) → Appends (out o) (out o') (certified a outcome).out → out_faults o ≤ out_faults o'
       → Delivered out out_faults err err_faults (certified a outcome) o e o' e 0
@@ -54,25 +77,86 @@ record IsCaused (asked : Option Asked) (shelf_failed : Type 0) (status : ℕ) : 
   words : status ≡ 2 → asked ≡ None
   reading : status ≡ 3 → shelf_failed
 
-caused-file : (asked : Option Asked) (read : Result Auction (ℕ × LineFault)) (shelf_failed : Type 0) (v : Verdict) → IsFileVerdict read v → IsCaused asked shelf_failed v.status
-caused-file asked (Err fault) shelf_failed v is =
-    let one : v.status ≡ 1 = ap (λ (w : Verdict). w.status) is in
+-- a verdict on a file's bytes is done, or it refuses them
+AnswersBytes : (List ℕ → Verdict → Type 0) → Type 0
+AnswersBytes on = (bytes : List ℕ) (v : Verdict) → on bytes v → v.status ≤ 1
+
+caused-on : (asked : Option Asked) (limit : ℕ) (files : Option (List ℕ → Option (List ℕ))) (shelf_failed : Type 0) (name : List ℕ) (on : List ℕ → Verdict → Type 0) → AnswersBytes on
+    → (v : Verdict) → OnFile limit files shelf_failed name on v → IsCaused asked shelf_failed v.status
+unfolding AnswersBytes
+caused-on asked limit files shelf_failed name on answers v (inl read) =
+    let three : v.status ≡ 3 = ap (λ (w : Verdict). w.status) read.0 in
+    record { known = omega arith; not_4 = λ s. absurd (omega arith); words = λ s. absurd (omega arith); reading = λ s. read.1 }
+caused-on asked limit files shelf_failed name on answers v (inr (inl is)) =
+    let five : v.status ≡ 5 = ap (λ (w : Verdict). w.status) is in
     record { known = omega arith; not_4 = λ s. absurd (omega arith); words = λ s. absurd (omega arith); reading = λ s. absurd (omega arith) }
-caused-file asked (Ok a) shelf_failed v is =
-    let zero : v.status ≡ 0 = ap (λ (w : Verdict). w.status) is.2 in
+caused-on asked limit files shelf_failed name on answers v (inr (inr said)) =
+    let few : v.status ≤ 1 = answers said.0 v said.2 in
     record { known = omega arith; not_4 = λ s. absurd (omega arith); words = λ s. absurd (omega arith); reading = λ s. absurd (omega arith) }
 
+file-status : (read : Result Auction (ℕ × LineFault)) (v : Verdict) → IsFileVerdict read v → v.status ≤ 1
+file-status (Err fault) v is = let one : v.status ≡ 1 = ap (λ (w : Verdict). w.status) is in omega arith
+file-status (Ok a) v is = let zero : v.status ≡ 0 = ap (λ (w : Verdict). w.status) is.2 in omega arith
+
+rules-status : (read : Result Rules RulesFault) (v : Verdict) → OnRules read (λ rules w. w ≡ tabled rules) v → v.status ≤ 1
+rules-status (Err fault) v is = let one : v.status ≡ 1 = ap (λ (w : Verdict). w.status) is in omega arith
+rules-status (Ok rules) v is = let zero : v.status ≡ 0 = ap (λ (w : Verdict). w.status) is in omega arith
+
 caused : (asked : Option Asked) (files : Option (List ℕ → Option (List ℕ))) (shelf_failed : Type 0) (v : Verdict) → IsVerdict asked files shelf_failed v → IsCaused asked shelf_failed v.status
+unfolding AnswersBytes
 caused None files shelf_failed v is =
     let two : v.status ≡ 2 = ap (λ (w : Verdict). w.status) is in
     record { known = omega arith; not_4 = λ s. absurd (omega arith); words = λ s. refl; reading = λ s. absurd (omega arith) }
-caused (Some (auction name)) files shelf_failed v (inl read) =
-    let three : v.status ≡ 3 = ap (λ (w : Verdict). w.status) read.0 in
-    record { known = omega arith; not_4 = λ s. absurd (omega arith); words = λ s. absurd (omega arith); reading = λ s. read.1 }
-caused (Some (auction name)) files shelf_failed v (inr (inl is)) =
-    let five : v.status ≡ 5 = ap (λ (w : Verdict). w.status) is in
-    record { known = omega arith; not_4 = λ s. absurd (omega arith); words = λ s. absurd (omega arith); reading = λ s. absurd (omega arith) }
-caused (Some (auction name)) files shelf_failed v (inr (inr said)) = caused-file (Some (auction name)) (auction_of said.0) shelf_failed v said.2
+caused (Some (auction file)) files shelf_failed v is =
+    caused-on _ 101000000 files shelf_failed file IsAuctionVerdict (λ bytes. file-status (auction_of bytes)) v is
+caused (Some (check rules)) files shelf_failed v is =
+    caused-on _ 1048576 files shelf_failed rules IsCheckVerdict (λ bytes. rules-status (rules_of bytes)) v is
+
+-- rules that are read have their tables as the verdict
+pub good-rules : (bytes : List ℕ) (rules : Rules) → rules_of bytes ≡ Ok rules → IsCheckVerdict bytes (tabled rules)
+good-rules bytes rules said =
+    let P : Result Rules RulesFault → Type 0 = λ read. OnRules read (λ rules w. w ≡ tabled rules) (tabled rules) in
+    subst P (sym said) refl
+
+refused-rules : (bytes : List ℕ) (fault : RulesFault) → rules_of bytes ≡ Err fault → IsCheckVerdict bytes (refused_rules fault)
+refused-rules bytes fault said =
+    let P : Result Rules RulesFault → Type 0 = λ read. OnRules read (λ rules w. w ≡ tabled rules) (refused_rules fault) in
+    subst P (sym said) refl
+
+-- and others their first fault, or there is no memory
+pub no-rules-is : (limit : ℕ) (files : Option (List ℕ → Option (List ℕ))) (shelf_failed : Type 0) (name : List ℕ) (fault : RulesFault) (bytes : List ℕ)
+    → IsRead limit files name bytes → Fails fault (rules_of bytes) → OnFile limit files shelf_failed name IsCheckVerdict (no_rules fault)
+no-rules-is limit files shelf_failed name faults.Memory bytes read fails = inr (inl refl)
+no-rules-is limit files shelf_failed name fault bytes read fails = inr (inr (bytes, read, refused-rules bytes fault fails))
+
+-- nothing goes to standard output where there are no rules
+pub no-rules-out : (fault : RulesFault) → (no_rules fault).out ≡ []
+no-rules-out faults.Memory = refl
+no-rules-out fault = refl
+
+-- the line of a fault, and the status
+pub no-rules-err : (fault : RulesFault) → (no_rules fault).err ≡ fault_line fault
+no-rules-err faults.Memory = refl
+no-rules-err fault = refl
+
+pub refused-status : (fault : RulesFault) (n : ℕ) → Some n ≡ fault_number fault → 1 ≡ (no_rules fault).status
+refused-status faults.Memory n e = absurd (cc)
+refused-status fault n e = refl
+
+pub memory-status : (fault : RulesFault) → None ≡ fault_number fault → 5 ≡ (no_rules fault).status
+memory-status faults.Memory e = refl
+memory-status fault e = absurd (cc)
+
+-- nothing goes to standard output where a file is not read
+pub unread-out : (fault : ReadFault) → (unread fault).out ≡ []
+unread-out Read = refl
+unread-out Memory = refl
+
+-- a file is not read, or there is no memory for it
+pub unread-is : (limit : ℕ) (files : Option (List ℕ → Option (List ℕ))) (shelf_failed : Type 0) (name : List ℕ) (on : List ℕ → Verdict → Type 0) (fault : ReadFault)
+    → (fault ≡ Read → shelf_failed) → OnFile limit files shelf_failed name on (unread fault)
+unread-is limit files shelf_failed name on Read failed = inl (refl, failed refl)
+unread-is limit files shelf_failed name on Memory failed = inr (inl refl)
 
 module _ {F O E : Type 0} (files : F → Option (List ℕ → Option (List ℕ))) (shelf_faults : F → ℕ) (out : O → Option (List ℕ)) (out_faults : O → ℕ) (err : E → Option (List ℕ)) (err_faults : E → ℕ)
     (asked : Option Asked) (f : F) (o : O) (e : E) (f' : F) (o' : O) (e' : E) where

@@ -7,7 +7,11 @@ pub use Rattle.auction_law.specs.Attempt
 pub use Rattle.auction_law.specs.Nearness
 pub use Rattle.auction_file.specs.AuctionFile
 pub use Rattle.auction_file.specs.EvenGrid
+pub use Rattle.rules_file.specs.Rules
+pub use Rattle.rules_report.specs.FaultLine
+pub use Rattle.rules_report.specs.Tables
 pub mod Auction
+pub mod Check
 pub mod Command
 pub mod Program
 pub mod Verdict

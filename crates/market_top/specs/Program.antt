@@ -1,21 +1,18 @@
 -- What every call of the program promises.
-use Rattle.std.specs.Prelude.{◌≡◌, ◌⊎◌, ◌+◌, ◌≤◌, ℕ, List, take, Option, Some, None, IfSome, IsSomeAnd}
+use Rattle.std.specs.Prelude.{◌≡◌, ◌⊎◌, ◌≤◌, ℕ, List, Option, Some, None}
 use Rattle.mkt_io.specs.Faults.{Rises}
 use Rattle.market_top.specs.Auction.{IsAuctionVerdict}
-use Rattle.market_top.specs.Command.{Asked, auction}
-use Rattle.market_top.specs.Verdict.{Delivered, Verdict, no_memory, not_read, refused_words}
-use Rattle.market_top.specs.declared.auction.TheConstants.{FILE_LIMIT}
-
--- the bytes that are read of a file, where the shelf tells them: up to the limit, and one more
-abbrev pub IsRead : Option (List ℕ → Option (List ℕ)) → List ℕ → List ℕ → Type 0
-IsRead files name bytes = IfSome files (λ file. IsSomeAnd (file name) (λ all. bytes ≡ take (FILE_LIMIT + 1) all))
+use Rattle.market_top.specs.Check.{IsCheckVerdict}
+use Rattle.market_top.specs.Command.{Asked, auction, check}
+use Rattle.market_top.specs.Verdict.{Delivered, OnFile, Verdict, refused_words}
 
 -- The verdict on a command, in the order of refusals: the words, then reading (only where the shelf failed), then
--- the file. That there is no memory may come at any time after the words.
+-- the file. That there is no memory may come at any time after the words. At most 101,000,000 bytes of an auction file and
+-- 1,048,576 of a rules file are read, and one more.
 abbrev pub IsVerdict : Option Asked → Option (List ℕ → Option (List ℕ)) → Type 0 → Verdict → Type 0
 IsVerdict None files shelf_failed v = v ≡ refused_words
-IsVerdict (Some (auction name)) files shelf_failed v =
-    ((v ≡ not_read) × shelf_failed) ⊎ (v ≡ no_memory) ⊎ ((bytes : List ℕ) × IsRead files name bytes × IsAuctionVerdict bytes v)
+IsVerdict (Some (auction file)) files shelf_failed v = OnFile 101000000 files shelf_failed file IsAuctionVerdict v
+IsVerdict (Some (check rules)) files shelf_failed v = OnFile 1048576 files shelf_failed rules IsCheckVerdict v
 
 -- What is promised of a call: a verdict on what is asked for is delivered; the causes once more by the status; and no
 -- object's count of faults falls.

@@ -9,11 +9,11 @@ ghost use Rattle.market_top.specs.Command.{auction};
 ghost use Rattle.market_top.specs.Program.{Answered};
 ghost use Rattle.market_top.specs.Verdict.{Delivered, Told, Verdict, no_memory};
 
-use crate::program::{Status, tell};
+use crate::program::{Status, tell, tell_unread};
 use auction_file::AuctionFile;
 use auction_law::plain_attempt;
 use auction_report::write_certificate;
-use mkt_io::{LineFault, Printer, ReadFault, Shelf, Sink, TextFault, WriteFault, read_whole};
+use mkt_io::{LineFault, Printer, Shelf, Sink, TextFault, WriteFault, read_whole};
 use std::alloc::Global;
 
 /// How many bytes a file may have; one more is read, and makes it too long.
@@ -33,8 +33,7 @@ pub(crate) fn run_auction<F: Shelf, O: Sink, E: Sink>(
 {
     let bytes = match read_whole(alloc, shelf, name, FILE_LIMIT) {
         Ok(bytes) => bytes,
-        Err(ReadFault::Read) => return tell(err, "read\n", Status::NOT_READ),
-        Err(ReadFault::Memory) => return tell(err, "memory\n", Status::NO_MEMORY),
+        Err(fault) => return tell_unread(err, fault),
     };
     match AuctionFile::read(alloc, &bytes) {
         Ok(file) => hold_auction(alloc, &file, out, err),

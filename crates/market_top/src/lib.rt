@@ -2,6 +2,7 @@
 #![tactic(auto)]
 
 mod auction;
+mod check;
 mod command;
 mod program;
 

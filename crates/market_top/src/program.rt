@@ -2,11 +2,12 @@
 ghost use Rattle.std.specs.Prelude.{◌≡◌, map, string_bytes};
 ghost use Rattle.market_top.specs.Command.{command_of, file_words};
 ghost use Rattle.market_top.specs.Program.{Answered};
-ghost use Rattle.market_top.specs.Verdict.{Told};
+ghost use Rattle.market_top.specs.Verdict.{Told, unread};
 
 use crate::auction::run_auction;
+use crate::check::run_check;
 use crate::command::{Command, command_of};
-use mkt_io::{Shelf, Sink, WriteFault, write_all};
+use mkt_io::{ReadFault, Shelf, Sink, WriteFault, write_all};
 use std::alloc::Global;
 
 /// The exit status of a call: 0 done, 1 the file is refused, 2 the words are refused, 3 the file was not
@@ -63,6 +64,7 @@ pub fn run_plain<F: Shelf, O: Sink, E: Sink>(
 {
     match command_of(words) {
         Some(Command::Auction { file }) => run_auction(alloc, file, shelf, out, err),
+        Some(Command::Check { rules }) => run_check(alloc, rules, shelf, out, err),
         None => tell(err, USAGE, Status::REFUSED_WORDS),
     }
 }
@@ -74,5 +76,15 @@ pub(crate) fn tell<E: Sink>(err: &mut E, text: &str, status: Status) -> Status
     match write_all(err, text.as_bytes()) {
         Ok(()) => status,
         Err(WriteFault) => Status::NOT_WRITTEN,
+    }
+}
+
+// Writes why there are no bytes of a file to standard error, and answers 3 or 5, or 4 where that fails.
+pub(crate) fn tell_unread<E: Sink>(err: &mut E, fault: ReadFault) -> Status
+    ensures { let v = unread fault in Told E.contents E.faults v.err v.status err.old err.new result.0 }
+{
+    match fault {
+        ReadFault::Read => tell(err, "read\n", Status::NOT_READ),
+        ReadFault::Memory => tell(err, "memory\n", Status::NO_MEMORY),
     }
 }

@@ -7,8 +7,6 @@ use Rattle.mkt_base.specs.declared.order.Side.TheVariants.{Buy, Sell}
 use Rattle.mkt_io.specs.Words.{is_text_byte, number_of, words}
 use Rattle.mkt_io.specs.declared.fault.LineFault.{LineFault}
 use Rattle.mkt_io.specs.declared.fault.LineFault.TheVariants.{Word, Number, Issue, Gateway, Participant, Own, TooLong, TooMany, NotText}
-use Rattle.mkt_io.specs.declared.fault.TheConstants.{LINES_LIMIT}
-use Rattle.mkt_io.specs.declared.lines.TheConstants.{LINE_LIMIT}
 
 -- the number by which a fault is told
 abbrev pub fault_number : LineFault → ℕ
@@ -22,11 +20,12 @@ fault_number TooLong = 7
 fault_number TooMany = 8
 fault_number NotText = 9
 
--- the words of a line with this number, or the first of its faults that come before the words
+-- the words of a line with this number, or the first of its faults that come before the words: a text has at most 500,000
+-- lines, and a line at most 200 bytes
 unfoldable pub checked_words : ℕ → List ℕ → Result (List (List ℕ)) LineFault
 checked_words number line =
-    if nat_lt LINES_LIMIT number then Err TooMany
-    else (if nat_lt LINE_LIMIT (length line) then Err TooLong
+    if nat_lt 500000 number then Err TooMany
+    else (if nat_lt 200 (length line) then Err TooLong
     else (if list_all is_text_byte line then Ok (words line) else Err NotText))
 
 -- a line without words, or whose first word begins with #, says nothing

@@ -2,7 +2,6 @@
 use Rattle.std.specs.Prelude.{◌≡◌, ℕ, ◌+◌, ◌<◌, ◌≤◌, List, [], ◌∷◌, length, if◌then◌else◌, ◌==◌}
 use Rattle.std.specs.List.{slice_split}
 use Rattle.std.specs.Str.Lines.{strip_carriage_return}
-use Rattle.mkt_io.specs.declared.lines.TheConstants.{LINE_LIMIT}
 use Rattle.mkt_io.specs.declared.lines.Piece.{Piece}
 use Rattle.mkt_io.specs.declared.lines.Piece.TheVariants.{Line, TooLong, End}
 
@@ -23,6 +22,6 @@ lines bytes = lines_of_parts (slice_split (λ b. b == 10) bytes)
 
 -- the next line is given with its number, or told as too long; where none is left, the end is told
 abbrev pub IsNextPiece : LinesLeft → Piece → LinesLeft → Type 0
-IsNextPiece old (Line number text) new = (old.left ≡ text.now ∷ new.left) × (number ≡ old.given + 1) × (new.given ≡ number) × (length text.now ≤ LINE_LIMIT)
-IsNextPiece old (TooLong number) new = (line : List ℕ) × (old.left ≡ line ∷ new.left) × (number ≡ old.given + 1) × (new.given ≡ number) × (LINE_LIMIT < length line)
+IsNextPiece old (Line number text) new = (old.left ≡ text.now ∷ new.left) × (number ≡ old.given + 1) × (new.given ≡ number) × (length text.now ≤ 200)
+IsNextPiece old (TooLong number) new = (line : List ℕ) × (old.left ≡ line ∷ new.left) × (number ≡ old.given + 1) × (new.given ≡ number) × (200 < length line)
 IsNextPiece old End new = (old.left ≡ []) × (new ≡ old)

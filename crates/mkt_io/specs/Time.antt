@@ -1,7 +1,6 @@
 -- The words of times: HH:MM:SS, or HH:MM:SS.mmm.
 use Rattle.std.specs.Prelude.{◌≡◌, ℕ, ◌+◌, ◌-◌, ◌*◌, ◌<◌, ◌&&◌, List, length, Option, Some, None, if◌then◌else◌, ◌==◌, nat_lt, slice_index}
 use Rattle.mkt_base.specs.Text.{time_text}
-use Rattle.mkt_base.specs.declared.units.TheConstants.{DAY_MS}
 use Rattle.mkt_io.specs.Words.{is_digit}
 
 -- one part after another, where each is there
@@ -48,4 +47,4 @@ time_of word =
 
 -- a moment that is printed reads back as itself
 abbrev pub PrintedMomentsReadBack : Type 0
-PrintedMomentsReadBack = (ms : ℕ) → ms < DAY_MS → time_of (time_text ms) ≡ Some ms
+PrintedMomentsReadBack = (ms : ℕ) → ms < 86400000 → time_of (time_text ms) ≡ Some ms

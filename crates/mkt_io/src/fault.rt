@@ -1,7 +1,6 @@
 // What may be wrong with a line of a text file.
 ghost use Rattle.std.specs.Prelude.{◌≡◌, ◌<◌, ◌≤◌, ℕ, List, length, MatchResult};
 ghost use Rattle.mkt_io.specs.LineFault.{checked_words, fault_number};
-ghost use Rattle.mkt_io.specs.declared.lines.TheConstants.{LINE_LIMIT};
 
 use crate::{LINE_LIMIT, Words, is_text};
 
@@ -79,7 +78,7 @@ pub fn checked_words(number: u32, line: &[u8]) -> Result<Words<'_>, LineFault>
 #[tactic(auto, unfolding(crate::specs::LineFault::checked_words))]
 /// The fault of a line that is too long, by its number.
 pub fn too_long(line: u32) -> LineFault
-    ensures { (text : List ℕ) → LINE_LIMIT < length text → checked_words line text ≡ Err result }
+    ensures { (text : List ℕ) → 200 < length text → checked_words line text ≡ Err result }
 {
     if line > LINES_LIMIT {
         LineFault::TooMany

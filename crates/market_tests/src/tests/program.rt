@@ -6,7 +6,7 @@ use mkt_io::{MemShelf, MemSink};
 use std::alloc::{AllocError, Global};
 use std::test::Fail;
 
-const USAGE: &str =
+pub(super) const USAGE: &str =
     "usage: auction FILE | check RULES | replay RULES SCRIPT | replay --gen NUMBER ORDERS RULES | run RULES SCRIPT | audit RULES REPORT | gen NUMBER ORDERS\n";
 
 const OPENING: &str =
@@ -14,22 +14,22 @@ const OPENING: &str =
 
 /// What a call answered and wrote.
 #[derive(Drop)]
-struct Answer {
-    status: u8,
-    out: String,
-    err: String,
+pub(super) struct Answer {
+    pub(super) status: u8,
+    pub(super) out: String,
+    pub(super) err: String,
 }
 
 /// Which calls fail: of the shelf, of standard output and of standard error; and which of the two calls is made.
 #[derive(Clone, Copy)]
-struct Fails<'a> {
-    by_plain: bool,
-    shelf: &'a [u64],
-    out: &'a [u64],
-    err: &'a [u64],
+pub(super) struct Fails<'a> {
+    pub(super) by_plain: bool,
+    pub(super) shelf: &'a [u64],
+    pub(super) out: &'a [u64],
+    pub(super) err: &'a [u64],
 }
 
-const NONE: Fails<'static> = Fails {
+pub(super) const NONE: Fails<'static> = Fails {
     by_plain: false,
     shelf: &[],
     out: &[],
@@ -55,7 +55,12 @@ fn copies(alloc: Global, words: &[String]) -> Result<Vec<String>, AllocError>
 }
 
 // Runs the words over a shelf with the one file `a`.
-fn answer_of(alloc: Global, words: &[&str], file: &[u8], fails: Fails) -> Result<Answer, Fail> {
+pub(super) fn answer_of(
+    alloc: Global,
+    words: &[&str],
+    file: &[u8],
+    fails: Fails,
+) -> Result<Answer, Fail> {
     let words = texts(alloc, words)?;
     let names = copies(alloc, file_words(&words))?;
     let mut files = Vec::new(alloc);
@@ -270,7 +275,7 @@ fn refused_words(rt: HostRuntime) -> Result<(), Fail> {
         &["auction", "-a"],
         &["auction", "a", "a"],
         &["Auction", "a"],
-        &["check", "a"],
+        &["replay", "a", "a"],
         &["--help"],
     ];
     for words in cases {

@@ -1,21 +1,17 @@
 use Rattle.std.proofs.Common.{◌≡◌, ℕ, Err, refl, sym, ap, ◌∙◌, inl, inr, arith}
 use Rattle.mkt_io.specs.declared.fault.LineFault.{LineFault}
 use Rattle.auction_file.specs.AuctionFile.{auction_of}
-use Rattle.market_top.specs.Auction.{refused_file}
-use Rattle.market_top.specs.Verdict.{no_memory, not_read}
-use Rattle.market_top.proofs.VerdictLemmas.{Answered-by, Delivered-told}
+use Rattle.market_top.specs.Auction.{IsAuctionVerdict, refused_file}
+use Rattle.market_top.specs.Verdict.{no_memory, unread}
+use Rattle.market_top.proofs.VerdictLemmas.{Answered-by, Delivered-told, unread-is, unread-out}
 use Rattle.market_top.proofs.auction.run_auction.Goals as goal
 
-pub returns-in-Err-Read : goal.returns-in-Err-Read
-returns-in-Err-Read g c =
-    Answered-by _ _ _ _ _ _ _ _ _ _ _ _ _ not_read _
-    (inl (refl, c.read_whole.ensures.failed (c.in-Err-Read.is ∙ ap Err c.in-Err-Read.field-0-is)))
-    (Delivered-told _ _ _ _ not_read _ _ _ _ refl c.tell.ensures) (omega arith)
-
-pub returns-in-Err-Memory : goal.returns-in-Err-Memory
-returns-in-Err-Memory g c =
-    Answered-by _ _ _ _ _ _ _ _ _ _ _ _ _ no_memory _ (inr (inl refl))
-    (Delivered-told _ _ _ _ no_memory _ _ _ _ refl c.tell-in-Err-Memory.ensures) (omega arith)
+pub returns-in-Err : goal.returns-in-Err
+returns-in-Err g c =
+    let fault = c.in-Err.fault in
+    Answered-by _ _ _ _ _ _ _ _ _ _ _ _ _ (unread fault) _
+    (unread-is 101000000 (g.F.Shelf.files c.args.shelf.now) _ c.args.name.now IsAuctionVerdict fault (λ read. c.read_whole.ensures.failed (c.in-Err.is ∙ ap Err read)))
+    (Delivered-told _ _ _ _ (unread fault) _ _ _ _ (unread-out fault) c.tell_unread.ensures) (omega arith)
 
 pub returns-in-Err-At : goal.returns-in-Err-At
 returns-in-Err-At g c =
@@ -28,4 +24,4 @@ returns-in-Err-At g c =
 pub returns : goal.returns
 returns g c =
     Answered-by _ _ _ _ _ _ _ _ _ _ _ _ _ no_memory _ (inr (inl refl))
-    (Delivered-told _ _ _ _ no_memory _ _ _ _ refl c.tell-in-Err-Memory-read.ensures) (omega arith)
+    (Delivered-told _ _ _ _ no_memory _ _ _ _ refl c.tell.ensures) (omega arith)

@@ -1,0 +1,5 @@
+mod Examples
+pub mod FormLemmas
+pub mod KeyLemmas
+pub mod IssueLemmas
+pub mod ListLemmas
