@@ -1,0 +1,4 @@
+pub mod Check
+pub mod Entry
+pub mod Laws
+pub mod Record
