@@ -1,0 +1,218 @@
+// Scripts, and their faults.
+ghost use Rattle.std.specs.Prelude.{IfOk};
+ghost use Rattle.rules_file.specs.Rules.{IsRules};
+
+use rules_file::{Rules, read_rules};
+use script_file::{Script, ScriptFault, read_script};
+use std::alloc::{AllocError, Global};
+use std::test::Fail;
+
+const HEAD: &str =
+    "special_ms = 180000\nsequential_ms = 60000\nticks = [[1000000000, 10]]\nlimits = [[1000000001, 5000]]\nranges = [[1000000001, 400]]\nsessions = [[\"08:00:00\", \"09:00:00\", \"11:30:00\"]]\nrounds = [\"all\"]\nparticipants = [\"p1\", \"p2\", \"p3\"]\n";
+
+const TAIL: &str =
+    "[[issue]]\ncode = \"AAAA\"\nbase = 20000\nunit = 100\n[[issue]]\ncode = \"BBBB\"\nbase = 12000\nunit = 100\n";
+
+// Two issues, AAAA and BBBB, three participants, p1 to p3, and these gateways.
+fn rules(alloc: Global, gateways: &str) -> Result<Rules, Fail>
+    ensures { IfOk result IsRules }
+{
+    let mut text = Vec::new(alloc);
+    for part in [HEAD, gateways, TAIL] {
+        text.extend_from_slice(part.as_bytes())?;
+    }
+    let rules = read_rules(alloc, &text).map_err(|_| "the rules are refused")?;
+    Ok(rules)
+}
+
+fn two_gateways(alloc: Global) -> Result<Rules, Fail>
+    ensures { IfOk result IsRules }
+{
+    rules(alloc, "gateways = [\"g1\", \"barrier\"]\n")
+}
+
+// What a text reads as.
+fn script(alloc: Global, rules: &Rules, text: &[u8]) -> Result<Script, ScriptFault>
+    requires { IsRules rules.now }
+{
+    if text.len() > 1 << 30 {
+        return Err(ScriptFault::Memory);
+    }
+    read_script(alloc, text, rules)
+}
+
+// What a text reads as: `read` and how many lines it has, or the line and the number of its first fault.
+fn told(alloc: Global, rules: &Rules, text: &[u8]) -> Result<String, AllocError>
+    requires { IsRules rules.now }
+{
+    match script(alloc, rules, text) {
+        Ok(script) => format!(in alloc; "read {}", script.lines.as_slice().len()),
+        Err(ScriptFault::At { line, number }) => format!(in alloc; "{line} {number}"),
+        Err(ScriptFault::Memory) => format!(in alloc; "memory"),
+    }
+}
+
+// A text so many times.
+fn repeated(alloc: Global, text: &[u8], times: u32) -> Result<Vec<u8>, AllocError> {
+    let mut all = Vec::new(alloc);
+    for _ in 0..times {
+        all.extend_from_slice(text)?;
+    }
+    Ok(all)
+}
+
+// Scripts with a fault, a line each: the line and the number of the fault, and behind a colon the script, in which `^` stands
+// for a line end.
+const FAULTS: &str = "
+# the gateway
+1 4: g9 AAAA order p1 buy 20010 500^
+1 4: barrier AAAA order p1 buy 20010 500^
+1 4: G1 AAAA order p1 buy 20010 500
+1 1: barrier^
+1 1: g1^
+# the issue
+1 3: g1 ZZZZ order p1 buy 20010 500^
+1 3: g1 ** clock 08:00:00^
+1 1: g1 *^
+1 1: g1 AAAA^
+# the command
+1 1: g1 AAAA foo p1 buy 20010 500^
+1 1: g1 AAAA orders p1 buy 20010 500^
+1 1: g1 AAAA cancel p1 0^
+1 1: g1 * foo^
+1 3: g1 * order^
+1 3: g1 * order p9 hold x^
+1 1: g1 AAAA order^
+1 1: g1 * clock^
+# the words of an order
+1 5: g1 AAAA order p9 buy 20010 500^
+1 1: g1 AAAA order p1^
+1 1: g1 AAAA order p1 hold 20010 500^
+1 1: g1 AAAA order p1 buy^
+1 2: g1 AAAA order p1 buy limit 500^
+1 2: g1 AAAA order p1 buy +20010 500^
+1 2: g1 AAAA order p1 buy 020010 500^
+1 2: g1 AAAA order p1 buy 4294967296 500^
+1 1: g1 AAAA order p1 sell market^
+1 2: g1 AAAA order p1 sell market -5^
+1 2: g1 AAAA order p1 sell market 4294967296^
+1 1: g1 AAAA order p1 sell market 500 open^
+# a moment
+1 2: g1 * clock 24:00:00^
+1 2: g1 * clock 8:00:00^
+1 2: g1 AAAA clock 08:00:00.00^
+1 1: g1 AAAA clock 08:00:00 500^
+# bytes
+1 9: g1 AAAA clock 08:00:00\r\r^
+1 9: # \u{7f}^
+# two faults in a line
+1 4: g9 * foo^
+1 3: g1 ZZ foo^
+1 3: g1 ZZZZ order p9 hold x x^
+1 5: g1 AAAA order p9 hold x x^
+1 1: g1 AAAA order p1 hold x x^
+1 2: g1 AAAA order p1 buy x 500 500^
+1 9: g9 AAAA \u{1}^
+# a later line, and faults in two lines
+4 2: # one^^ \t\r^g1 AAAA order p1 buy 1 x^
+2 3: g1 * clock 08:00:00^g1 ZZZZ foo^g9 AAAA foo^
+1 5: g1 AAAA order p9 buy 1 1^g9 AAAA foo^
+3 4: g1 * clock 08:00:00^g1 * clock 08:00:00^g9
+";
+
+// What the script of a case reads as, and what is wanted.
+fn told_of_case(alloc: Global, rules: &Rules, case: &str) -> Result<(String, String), Fail>
+    requires { IsRules rules.now }
+{
+    let Some((want, text)) = case.split_once(": ") else {
+        return Err("a case without a colon")?;
+    };
+    let text = text.replace(alloc, "^", "\n")?;
+    let want = String::from_str(alloc, want)?;
+    Ok((told(alloc, rules, text.as_bytes())?, want))
+}
+
+#[test]
+fn faults(rt: HostRuntime) -> Result<(), Fail> {
+    let rules = rules(rt.alloc(), "gateways = [\"g1\"]\n")?;
+    for case in FAULTS.lines() {
+        if case.is_empty() || case.starts_with("#") {
+            continue;
+        }
+        let (told, want) = told_of_case(rt.alloc(), &rules, case)?;
+        assert_eq!(rt; told.as_str(), want.as_str(), "of {case}");
+    }
+    Ok(())
+}
+
+// A piece so many times, with an end.
+fn long(alloc: Global, piece: &str, times: u32, end: &str) -> Result<Vec<u8>, AllocError> {
+    let mut text = repeated(alloc, piece.as_bytes(), times)?;
+    text.extend_from_slice(end.as_bytes())?;
+    Ok(text)
+}
+
+#[test]
+fn limits(rt: HostRuntime) -> Result<(), Fail> {
+    let rules = two_gateways(rt.alloc())?;
+    // (a piece, how often it stands, what stands behind it, and what that reads as)
+    let cases: [(&str, u32, &str, &str); 10] = [
+        ("", 0, "", "read 0"),
+        ("\n", 500_000, "", "read 0"),
+        ("\n", 500_001, "", "500001 8"),
+        ("#", 200, "\r\n", "read 0"),
+        ("#", 201, "\n", "1 7"),
+        ("\u{1}", 201, "\ng9\n", "1 7"),
+        ("g1 * clock 08:00:00\n", 250_000, "", "read 500000"),
+        ("g1 * clock 08:00:00\n", 250_001, "", "250001 8"),
+        (
+            "g1 * clock 08:00:00\n",
+            250_000,
+            "g1 AAAA clock 24:00:00",
+            "250001 2",
+        ),
+        (
+            "g1 AAAA order p1 buy 20010 500\n",
+            499_999,
+            "g1 * clock 08:00:00",
+            "500000 8",
+        ),
+    ];
+    for (piece, times, end, want) in cases {
+        let text = long(rt.alloc(), piece, times, end)?;
+        let told = told(rt.alloc(), &rules, &text)?;
+        assert_eq!(rt; told.as_str(), want, "{times} times {piece}");
+    }
+    Ok(())
+}
+
+// The lines of a script, as they are printed for tests.
+fn lines_text(alloc: Global, script: &Script) -> Result<String, AllocError> {
+    let mut text = String::new(alloc);
+    for line in script.lines.as_slice() {
+        let one = format!(in alloc; "{} {:?}\n", line.gateway.0, line.line)?;
+        text.push_str(one.as_str())?;
+    }
+    Ok(text)
+}
+
+const WHOLE: &str =
+    "g1 * clock 08:00:00\n# an order\n\tbarrier  BBBB order p3 buy market 0 \ng1 AAAA order p1 sell 4294967295 4294967295\r\ng1 BBBB clock 23:59:59.999";
+
+const WHOLE_LINES: &str = "\
+1 ScriptLine { line: 1, stage: 0, issue: 0, act: Do(Clock { at: Moment { ms: 28800000 } }) }
+1 ScriptLine { line: 1, stage: 0, issue: 1, act: Do(Clock { at: Moment { ms: 28800000 } }) }
+2 ScriptLine { line: 3, stage: 0, issue: 1, act: Do(Order { participant: Participant(2), side: Buy, kind: Market, qty: Qty(0) }) }
+1 ScriptLine { line: 4, stage: 0, issue: 0, act: Do(Order { participant: Participant(0), side: Sell, kind: Limit(Price(4294967295)), qty: Qty(4294967295) }) }
+1 ScriptLine { line: 5, stage: 0, issue: 1, act: Do(Clock { at: Moment { ms: 86399999 } }) }
+";
+
+#[test]
+fn a_script_is_read_whole(rt: HostRuntime) -> Result<(), Fail> {
+    let rules = two_gateways(rt.alloc())?;
+    let script = script(rt.alloc(), &rules, WHOLE.as_bytes()).map_err(|_| "the script is refused")?;
+    let lines = lines_text(rt.alloc(), &script)?;
+    assert_eq!(rt; lines.as_str(), WHOLE_LINES);
+    assert_eq!(rt; script.stages, 1);
+    Ok(())
+}

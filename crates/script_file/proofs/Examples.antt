@@ -1,0 +1,109 @@
+-- Worked examples: the definitions compute to what a reader of the format would say.
+use Rattle.std.specs.Prelude.{⊤, ◌≡◌, ℕ, List, [], ◌∷◌, ◌++◌, flat_map, Result, Ok, Err, refl, codes}
+use Rattle.mkt_base.specs.declared.event.Event.TheVariants.{Order, Clock}
+use Rattle.mkt_base.specs.declared.order.Kind.TheVariants.{Market, Limit}
+use Rattle.mkt_base.specs.declared.order.Side.TheVariants.{Buy, Sell}
+use Rattle.mkt_base.specs.declared.script.Act.{Act}
+use Rattle.mkt_base.specs.declared.script.Act.TheVariants.{Do}
+use Rattle.mkt_io.specs.LineFault.{checked_words, next_number, number_in}
+use Rattle.mkt_io.specs.Time.{digit_of, millis_of, part_at, time_of, two_at}
+use Rattle.mkt_io.specs.Words.{number_of, words}
+use Rattle.rules_file.specs.declared.issue.IssueRules.{IssueRules}
+use Rattle.rules_file.specs.declared.rules.Rules.{Rules}
+use Rattle.script_file.specs.Commands.{clock_words, next_command, order_words}
+use Rattle.script_file.specs.Script.{gateway_line, line_said, read_lines, said_by, script_of, with_lines, words_said}
+use Rattle.script_file.specs.Words.{gateway_of, issues_of, kind_of, next_issues, next_kind, next_moment, next_participant, next_side}
+use Rattle.script_file.specs.declared.fault.ScriptFault.{ScriptFault}
+use Rattle.script_file.specs.declared.fault.ScriptFault.TheVariants.{At}
+use Rattle.script_file.specs.declared.script.GatewayScriptLine.{GatewayScriptLine}
+use Rattle.script_file.specs.declared.script.Script.{Script}
+
+-- what the examples unfold
+unfoldable script_on_literals : ⊤
+unfolding checked_words words next_number number_in number_of digit_of millis_of part_at time_of two_at clock_words next_command order_words gateway_line line_said read_lines said_by with_lines words_said gateway_of issues_of kind_of next_issues next_kind next_moment next_participant next_side
+script_on_literals = tt
+
+abbrev issue : IssueRules
+issue = record { base = record { 0 = 20000 }; unit = 100; low = record { 0 = 20000 }; high = record { 0 = 20000 }; prices = 1 }
+
+-- rules with the issues AAAA and BBBB, the participants p1 and p2, and the gateways g1 and barrier
+abbrev rules : Rules
+rules = record {
+  special_ms = 180000;
+  sequential_ms = 60000;
+  ticks = [];
+  limits = [];
+  ranges = [];
+  sessions = [];
+  rounds = [];
+  participants = codes "p1" ∷ codes "p2" ∷ [];
+  gateways = codes "g1" ∷ codes "barrier" ∷ [];
+  issues = record { codes = codes "AAAA" ∷ codes "BBBB" ∷ []; rules = issue ∷ issue ∷ [] };
+}
+
+-- what a script of these lines says
+abbrev said : List (List ℕ) → Result Script ScriptFault
+said lines = script_of rules (flat_map (λ line. line ++ 10 ∷ []) lines)
+
+-- a gateway's line of the first stage
+abbrev made : ℕ → ℕ → ℕ → Act → GatewayScriptLine
+made gateway number at act = record { gateway = record { 0 = gateway }; line = record { line = number; stage = 0; issue = at; act = act } }
+
+nothing : said [] ≡ Ok (record { lines = []; stages = 1 })
+unfolding script_on_literals
+nothing = refl
+
+-- the second gateway sells at any price; the last line has no end
+an_order : script_of rules (codes "barrier AAAA order p2 sell market 0") ≡ Ok (record { lines = made 2 1 0 (Do (Order (record { 0 = 1 }) Sell Market (record { 0 = 0 }))) ∷ []; stages = 1 })
+unfolding script_on_literals
+an_order = refl
+
+-- a moment for each issue, a comment, and a buy of line 3
+every_issue : said (codes "g1 * clock 08:00:00" ∷ codes "# -" ∷ codes "g1 BBBB order p1 buy 7 5" ∷ [])
+    ≡ Ok (record {
+      lines = made 1 1 0 (Do (Clock 28800000)) ∷ made 1 1 1 (Do (Clock 28800000)) ∷ made 1 3 1 (Do (Order (record { 0 = 0 }) Buy (Limit (record { 0 = 7 })) (record { 0 = 5 }))) ∷ [];
+      stages = 1;
+    })
+unfolding script_on_literals
+every_issue = refl
+
+-- `*` is no fault of its own before a word that is no command
+no_command : said (codes "g1 * foo" ∷ []) ≡ Err (At 1 1)
+unfolding script_on_literals
+no_command = refl
+
+-- an order is for one issue, whatever stands behind it
+order_for_all : said (codes "g1 * order p9" ∷ []) ≡ Err (At 1 3)
+unfolding script_on_literals
+order_for_all = refl
+
+-- the gateway comes first, then the issue
+gateway_first : said (codes "g9 ZZ foo" ∷ []) ≡ Err (At 1 4)
+unfolding script_on_literals
+gateway_first = refl
+
+issue_next : said (codes "g1 ZZ foo" ∷ []) ≡ Err (At 1 3)
+unfolding script_on_literals
+issue_next = refl
+
+-- the one word `barrier`, also where a gateway has that name
+one_barrier : said (codes "" ∷ codes " barrier " ∷ codes "g9" ∷ []) ≡ Err (At 2 1)
+unfolding script_on_literals
+one_barrier = refl
+
+unknown_participant : said (codes "g1 AAAA order p9 hold x x" ∷ []) ≡ Err (At 1 5)
+unfolding script_on_literals
+unknown_participant = refl
+
+signed_price : said (codes "g1 AAAA order p1 buy +7 5" ∷ []) ≡ Err (At 1 2)
+unfolding script_on_literals
+signed_price = refl
+
+extra_word : said (codes "g1 AAAA clock 08:00:00.000 x" ∷ []) ≡ Err (At 1 1)
+unfolding script_on_literals
+extra_word = refl
+
+-- the bytes of a line come before its words
+no_text : said ((103 ∷ 57 ∷ 32 ∷ 127 ∷ []) ∷ []) ≡ Err (At 1 9)
+unfolding script_on_literals
+no_text = refl

@@ -1,0 +1,50 @@
+-- The commands of a gateway, each with the words that follow it. A further command is a row of `command_of` and one of
+-- `act_words`, with its own words.
+use Rattle.std.specs.Prelude.{ℕ, List, Result, Ok, Err, if◌then◌else◌, codes}
+use Rattle.std.specs.Str.{bytes_eq}
+use Rattle.mkt_base.specs.declared.event.Event.TheVariants as events
+use Rattle.mkt_base.specs.declared.script.Act.{Act}
+use Rattle.mkt_base.specs.declared.script.Act.TheVariants.{Do}
+use Rattle.mkt_io.specs.LineFault.{◌>>=◌, next_number, no_more, wanted}
+use Rattle.mkt_io.specs.declared.fault.LineFault.{LineFault}
+use Rattle.mkt_io.specs.declared.fault.LineFault.TheVariants.{Word, Issue}
+use Rattle.rules_file.specs.declared.rules.Rules.{Rules}
+use Rattle.script_file.specs.Words.{next_kind, next_moment, next_participant, next_side}
+use Rattle.script_file.specs.declared.commands.Command.{Command}
+use Rattle.script_file.specs.declared.commands.Command.TheVariants.{Order, Clock}
+use Rattle.script_file.specs.declared.words.Issues.{Issues}
+use Rattle.script_file.specs.declared.words.Issues.TheVariants.{One, Each}
+
+-- the command of a word
+abbrev pub command_of : List ℕ → Result Command LineFault
+command_of word = if bytes_eq word (codes "order") then Ok Order else (if bytes_eq word (codes "clock") then Ok Clock else Err Word)
+
+-- the command that the next word names, and the words after it
+unfoldable pub next_command : List (List ℕ) → Result (Command × List (List ℕ)) LineFault
+next_command words = do
+  word ← wanted words
+  command ← command_of word.0
+  Ok (command, word.1)
+
+-- after `order`: P buy K QTY, or P sell K QTY
+unfoldable pub order_words : Rules → List (List ℕ) → Result Act LineFault
+order_words rules words = do
+  participant ← next_participant rules words
+  side ← next_side participant.1
+  kind ← next_kind side.1
+  quantity ← next_number 0 4294967295 kind.1
+  end ← no_more quantity.1
+  Ok (Do (events.Order participant.0 side.0 kind.0 (record { 0 = quantity.0 })))
+
+-- after `clock`: TIME
+unfoldable pub clock_words : List (List ℕ) → Result Act LineFault
+clock_words words = do
+  moment ← next_moment words
+  end ← no_more moment.1
+  Ok (Do (events.Clock moment.0))
+
+-- what the words after a command say: an order is for one issue
+abbrev pub act_words : Rules → Issues → Command → List (List ℕ) → Result Act LineFault
+act_words rules (One issue) Order words = order_words rules words
+act_words rules Each Order words = Err Issue
+act_words rules issues Clock words = clock_words words

@@ -1,0 +1,24 @@
+-- What the reader of a script keeps beside the script.
+use Rattle.std.specs.Prelude.{◌≡◌, ℕ, ◌≤◌, List, ◌++◌, map}
+use Rattle.std.specs.List.{range_with_len}
+use Rattle.mkt_base.specs.declared.script.Act.{Act}
+use Rattle.mkt_base.specs.declared.script.Act.TheVariants.{Do, Show}
+use Rattle.mkt_base.specs.declared.units.Caller.{Caller}
+use Rattle.script_file.specs.Script.{event_count, line_for}
+use Rattle.script_file.specs.declared.script.GatewayScriptLine.{GatewayScriptLine}
+use Rattle.script_file.specs.declared.script.Script.{Script}
+
+-- how many events a line makes for so many issues
+abbrev pub events_of : Act → ℕ → ℕ
+events_of (Do event) count = count
+events_of Show count = 0
+
+-- the script with a line for each of so many issues from the first on
+abbrev pub with_run : Script → ℕ → Caller → Act → ℕ → ℕ → Script
+with_run script number gateway act first count = record script { lines = script.lines ++ map (line_for script number gateway act) (range_with_len first count) }
+
+-- a stage is open, and the events are those that the lines make
+pub record IsKept (made : List GatewayScriptLine) (stages events : ℕ) : Type 0 where
+  pub open_stage : 1 ≤ stages
+  pub count : events ≡ event_count made
+  pub few : events ≤ 500000

@@ -1,0 +1,236 @@
+// The script so far, while its lines are read.
+ghost use Rattle.std.specs.Prelude.{◌≡◌, ◌+◌, ◌-◌, ◌<◌, ◌≤◌, [], ◌∷◌, ◌++◌, Ok, Err, IfOk, MatchResult, OnOk};
+ghost use Rattle.std.specs.List.{range_with_len};
+ghost use Rattle.rules_file.specs.Rules.{IsRules};
+ghost use Rattle.script_file.specs.Faults.{Fails, at_line};
+ghost use Rattle.script_file.specs.Reader.{events_of, with_run};
+ghost use Rattle.script_file.specs.Script.{IsFor, event_count, is_barrier, line_said, numbers_of, said_by, with_said, words_said};
+ghost use Rattle.script_file.specs.Words.{AreIssues};
+
+use crate::commands::{act_words, next_command};
+use crate::fault::at_line;
+use crate::words::{Issues, gateway_of, next_issues};
+use crate::{GatewayScriptLine, Script, ScriptFault};
+use mkt_base::{Act, Caller, Rows, ScriptLine};
+use mkt_io::{LineFault, Words, checked_words};
+use rules_file::Rules;
+use std::alloc::{AllocError, Global};
+use std::marker::Model;
+
+/// How many events a script may have, over all gateways and issues.
+const EVENTS_LIMIT: u32 = 500_000;
+
+// What a line of a script says.
+#[derive(Clone, Copy)]
+pub(crate) enum Said {
+    // Nothing: it has no words, or is a comment.
+    Nothing,
+    // A gateway does this in these issues.
+    Line(Caller, Issues, Act),
+}
+
+// The script so far. Contracts see the script.
+#[derive(Drop)]
+pub(crate) struct Reader {
+    lines: Vec<GatewayScriptLine>,
+    stages: u32,
+    // How many of the lines make an event.
+    events: u32,
+}
+
+impl Model for Reader {
+    ghost use Rattle.script_file.specs.declared.script.Script.{Script};
+    ghost use Rattle.script_file.specs.Reader.{IsKept};
+
+    ghost Value = { Script };
+
+    ghost view = { λ r. record { lines = r.lines.items; stages = r.stages } };
+
+    ghost invariant = { λ r. IsKept r.lines.items r.stages r.events };
+}
+
+impl Reader {
+    // The script before its first line.
+    pub(crate) fn new(alloc: Global) -> Reader
+        ensures { result ≡ record { lines = []; stages = 1 } }
+    {
+        Reader {
+            lines: Vec::new(alloc),
+            stages: 1,
+            events: 0,
+        }
+    }
+
+    // The script as it stands.
+    pub(crate) fn into_script(self) -> Script
+        ensures { result ≡ self }
+    {
+        let Reader { lines, stages, .. } = self;
+        Script {
+            lines: Rows::new(lines),
+            stages,
+        }
+    }
+
+    // Reads a line: the script has what it says, or its first fault is told.
+    pub(crate) fn read_line(
+        &mut self,
+        rules: &Rules,
+        number: u32,
+        text: &[u8],
+    ) -> Result<(), ScriptFault>
+        requires { IsRules rules.now }
+        ensures { MatchResult result (λ _. line_said rules.now self.old number text.now ≡ Ok self.new) (λ fault.
+            Fails fault (line_said rules.now self.old number text.now)) }
+    {
+        match read_words(rules, number, text) {
+            Ok(said) => self.add(rules, number, &said),
+            Err(fault) => Err(at_line(number, fault)),
+        }
+    }
+
+    // Adds what a line says. The events are counted before anything is added.
+    fn add(&mut self, rules: &Rules, number: u32, said: &Said) -> Result<(), ScriptFault>
+        requires rules { IsRules rules.now }
+        requires said { IsFor rules.now said.now }
+        ensures { MatchResult result (λ _. at_line number (with_said rules.now self.old number said.now) ≡ Ok self.new)
+            (λ fault. Fails fault (at_line number (with_said rules.now self.old number said.now))) }
+    {
+        let Said::Line(gateway, issues, act) = said else {
+            return Ok(());
+        };
+        let (first, count) = numbers_of(rules, *issues);
+        if self.events + events_of(act, count) > EVENTS_LIMIT {
+            return Err(at_line(number, LineFault::TooMany));
+        }
+        match self.add_run(number, *gateway, act, first, count) {
+            Ok(()) => Ok(()),
+            Err(_) => Err(ScriptFault::Memory),
+        }
+    }
+
+    // Adds a line for each of `count` issues from the first on.
+    fn add_run(
+        &mut self,
+        number: u32,
+        gateway: Caller,
+        act: &Act,
+        first: u16,
+        count: u16,
+    ) -> Result<(), AllocError>
+        requires issues { first + count ≤ 64 }
+        requires room { event_count self.old.lines + events_of act.now count ≤ 500000 }
+        ensures { OnOk result (self.new ≡ with_run self.old number gateway act.now first count) }
+    {
+        let stage = self.open_stage();
+        for issue in first..first + count {
+            let line = line_for(stage, number, gateway, act, issue);
+            self.push(line)?;
+        }
+        Ok(())
+    }
+
+    // The number of the stage that is open.
+    fn open_stage(&self) -> u32
+        ensures { result ≡ self.now.stages - 1 }
+    {
+        self.stages - 1
+    }
+
+    fn push(&mut self, line: GatewayScriptLine) -> Result<(), AllocError>
+        requires { event_count self.old.lines + events_of line.line.act 1 ≤ 500000 }
+        ensures { OnOk result (self.new ≡ record self.old { lines = self.old.lines ++ line ∷ [] }) }
+    {
+        let events = events_of(&line.line.act, 1);
+        push(&mut self.lines, line)?;
+        self.events += events;
+        Ok(())
+    }
+}
+
+// Adds an item at the end. (The prover does not follow a push of an item that holds a moment.)
+fn push<T: Copy + Drop>(items: &mut Vec<T>, item: T) -> Result<(), AllocError>
+    ensures { MatchResult result (λ _. items.new.items ≡ items.old.items ++ item ∷ []) (λ _. items.new.items ≡
+        items.old.items) }
+{
+    items.push(item)?;
+    Ok(())
+}
+
+// A gateway's line for one issue.
+fn line_for(stage: u32, number: u32, gateway: Caller, act: &Act, issue: u16) -> GatewayScriptLine
+    ensures { result ≡ record { gateway = gateway; line = record { line = number; stage = stage; issue = issue; act = act.now } } }
+{
+    GatewayScriptLine {
+        gateway,
+        line: ScriptLine {
+            line: number,
+            stage,
+            issue,
+            act: *act,
+        },
+    }
+}
+
+// How many events a line makes for so many issues.
+fn events_of(act: &Act, count: u16) -> u32
+    ensures { result ≡ events_of act.now count }
+{
+    match act {
+        Act::Do(_) => u32::from(count),
+        Act::Show => 0,
+    }
+}
+
+// The numbers of the issues that a line is for: the first, and how many there are.
+fn numbers_of(rules: &Rules, issues: Issues) -> (u16, u16)
+    requires rules { IsRules rules.now }
+    requires known { AreIssues rules.now issues }
+    ensures numbers { numbers_of rules.now issues ≡ range_with_len result.0 result.1 }
+    ensures few { result.0 + result.1 ≤ 64 }
+{
+    match issues {
+        Issues::One(issue) => (issue, 1),
+        Issues::Each => (0, rules.issues()),
+    }
+}
+
+// Whether a line is the one word `barrier`, by its first word and those after it.
+fn is_barrier(first: &[u8], words: &Words<'_>) -> bool
+    ensures { result ≡ is_barrier (first.now ∷ words.now) }
+{
+    first == b"barrier".as_slice() && words.at_end()
+}
+
+// What a line with these words says: its words are tested from left to right.
+#[tactic(auto, unfolding(crate::specs::Script::said_by, crate::specs::Script::gateway_line))]
+fn said_by(rules: &Rules, words: &mut Words<'_>) -> Result<Said, LineFault>
+    requires { IsRules rules.now }
+    ensures exact { result ≡ said_by rules.now words.old }
+    ensures known { IfOk result (IsFor rules.now) }
+{
+    let Some(first) = words.first() else {
+        return Ok(Said::Nothing);
+    };
+    if is_barrier(first, words) {
+        return Err(LineFault::Word);
+    }
+    let gateway = gateway_of(rules, first)?;
+    let issues = next_issues(rules, words)?;
+    let command = next_command(words)?;
+    let act = act_words(rules, issues, command, words)?;
+    Ok(Said::Line(gateway, issues, act))
+}
+
+// What a line says, or its first fault.
+#[tactic(auto, unfolding(crate::specs::Script::words_said))]
+fn read_words(rules: &Rules, number: u32, text: &[u8]) -> Result<Said, LineFault>
+    requires { IsRules rules.now }
+    ensures exact { result ≡ words_said rules.now number text.now }
+    ensures known { IfOk result (IsFor rules.now) }
+{
+    match checked_words(number, text) {
+        Ok(mut words) => said_by(rules, &mut words),
+        Err(fault) => Err(fault),
+    }
+}

@@ -1,0 +1,109 @@
+// The words of a gateway's line, one after another.
+ghost use Rattle.std.specs.Prelude.{◌≡◌, ◌<◌, ◌≤◌, length, IfOk, IfSome, MatchResult};
+ghost use Rattle.rules_file.specs.Rules.{IsRules, gateways_in, issues_in};
+ghost use Rattle.script_file.specs.Words.{AreIssues, gateway_of, issues_of, kind_of, next_issues, next_kind, next_moment, next_participant, next_side};
+
+use mkt_base::{Caller, Kind, Moment, Participant, Price, Side};
+use mkt_io::{LineFault, Words, number_in, side_of, time_word};
+use rules_file::Rules;
+
+// The issues that a line is for.
+#[derive(Clone, Copy)]
+pub(crate) enum Issues {
+    // The issue of this number.
+    One(u16),
+    // Every issue, by `*`.
+    Each,
+}
+
+// The caller that a gateway is.
+#[tactic(auto, unfolding(crate::specs::Words::gateway_of))]
+pub(crate) fn gateway_of(rules: &Rules, word: &[u8]) -> Result<Caller, LineFault>
+    requires { IsRules rules.now }
+    ensures { result ≡ gateway_of rules.now word.now }
+{
+    let number = rules.gateway_of_word(word).ok_or(LineFault::Gateway)?;
+    Ok(Caller(number + 1))
+}
+
+#[tactic(auto, unfolding(crate::specs::Words::issues_of))]
+fn issues_of(rules: &Rules, word: &[u8]) -> Result<Issues, LineFault>
+    requires { IsRules rules.now }
+    ensures exact { result ≡ issues_of rules.now word.now }
+    ensures known { IfOk result (AreIssues rules.now) }
+{
+    if word == b"*".as_slice() {
+        return Ok(Issues::Each);
+    }
+    let number = rules.issue_of_word(word).ok_or(LineFault::Issue)?;
+    Ok(Issues::One(number))
+}
+
+// The issues that the next word names.
+#[tactic(auto, unfolding(crate::specs::Words::next_issues))]
+pub(crate) fn next_issues(rules: &Rules, words: &mut Words<'_>) -> Result<Issues, LineFault>
+    requires { IsRules rules.now }
+    ensures exact { MatchResult result (λ issues. next_issues rules.now words.old ≡ Ok (issues, words.new)) (λ fault.
+        next_issues rules.now words.old ≡ Err fault) }
+    ensures known { IfOk result (AreIssues rules.now) }
+{
+    let word = words.wanted()?;
+    issues_of(rules, word)
+}
+
+// The participant that the next word names.
+#[tactic(auto, unfolding(crate::specs::Words::next_participant))]
+pub(crate) fn next_participant(
+    rules: &Rules,
+    words: &mut Words<'_>,
+) -> Result<Participant, LineFault>
+    ensures { MatchResult result (λ participant. next_participant rules.now words.old ≡ Ok (participant, words.new)) (λ
+        fault. next_participant rules.now words.old ≡ Err fault) }
+{
+    let word = words.wanted()?;
+    let number = rules
+        .participant_of_word(word)
+        .ok_or(LineFault::Participant)?;
+    Ok(Participant(number))
+}
+
+// The side that the next word names.
+#[tactic(auto, unfolding(crate::specs::Words::next_side))]
+pub(crate) fn next_side(words: &mut Words<'_>) -> Result<Side, LineFault>
+    ensures { MatchResult result (λ side. next_side words.old ≡ Ok (side, words.new)) (λ fault. next_side words.old ≡
+        Err fault) }
+{
+    let word = words.wanted()?;
+    side_of(word)
+}
+
+#[tactic(auto, unfolding(crate::specs::Words::kind_of))]
+fn kind_of(word: &[u8]) -> Result<Kind, LineFault>
+    ensures { result ≡ kind_of word.now }
+{
+    if word == b"market".as_slice() {
+        return Ok(Kind::Market);
+    }
+    let price = number_in(word, 0, u32::MAX)?;
+    Ok(Kind::Limit(Price(price)))
+}
+
+// The kind that the next word says: `market`, or a limit price.
+#[tactic(auto, unfolding(crate::specs::Words::next_kind))]
+pub(crate) fn next_kind(words: &mut Words<'_>) -> Result<Kind, LineFault>
+    ensures { MatchResult result (λ kind. next_kind words.old ≡ Ok (kind, words.new)) (λ fault. next_kind words.old ≡
+        Err fault) }
+{
+    let word = words.wanted()?;
+    kind_of(word)
+}
+
+// The moment that the next word says.
+#[tactic(auto, unfolding(crate::specs::Words::next_moment))]
+pub(crate) fn next_moment(words: &mut Words<'_>) -> Result<Moment, LineFault>
+    ensures { MatchResult result (λ moment. next_moment words.old ≡ Ok (moment, words.new)) (λ fault. next_moment
+        words.old ≡ Err fault) }
+{
+    let word = words.wanted()?;
+    time_word(word).ok_or(LineFault::Number)
+}
