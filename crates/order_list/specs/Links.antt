@@ -1,0 +1,101 @@
+-- How an `OrderList` keeps its lists. No public clause cites this module.
+use Rattle.std.specs.Prelude.{◌≡◌, ◌≢◌, ℕ, zero, suc, ◌+◌, ◌-◌, ◌<◌, ◌≤◌, List, [], ◌∷◌, length, map, Option, Some, None, option_map, slice_index_or, slice_set, sum_by, unwrap_or}
+use Rattle.slab.specs.Slab.{Slab, get, slab_len}
+use Rattle.order_list.specs.Lists.{Linked, Lists, list_at}
+use Rattle.order_list.specs.declared.node.Node.{Node}
+use Rattle.order_list.specs.declared.node.Ends.{Ends}
+
+-- the ends of an empty list
+abbrev pub no_ends : Ends
+no_ends = record { first = None; last = None }
+
+abbrev pub end_at : List Ends → ℕ → Ends
+end_at ends list = slice_index_or ends list no_ends
+
+module _ {T : Type 0} where
+  -- a walk from `at`, before which `before` stands, over the nodes of a list gives these items; it ends with `last`, which
+  -- `after` follows
+  abbrev pub IsSegment : (ℕ → Option (Node T)) → ℕ → Option ℕ → Option ℕ → List (Linked T) → Option ℕ → Option ℕ → Type 0
+  IsSegment cells list before at [] last after = (last ≡ before) × (at ≡ after)
+  IsSegment cells list before at (node ∷ nodes) last after =
+      (at ≡ Some node.link)
+      × ((next : Option ℕ)
+      × (cells node.link ≡ Some (record { list = list; before = before; after = next; item = node.item }))
+      × IsSegment cells list (Some node.link) next nodes last after)
+
+  -- none of these has the link
+  abbrev pub IsAbsent : ℕ → List (Linked T) → Type 0
+  IsAbsent link [] = Unit {0}
+  IsAbsent link (node ∷ nodes) = (node.link ≢ link) × IsAbsent link nodes
+
+  -- no link stands twice
+  abbrev pub AreApart : List (Linked T) → Type 0
+  AreApart [] = Unit {0}
+  AreApart (node ∷ nodes) = IsAbsent node.link nodes × AreApart nodes
+
+  -- each list is walked from its first to its last node
+  pub record AreLinked (cells : ℕ → Option (Node T)) (ends : List Ends) (lists : List (List (Linked T))) : Type 0 where
+    pub same : length ends ≡ length lists
+    pub each : (list : ℕ) → list < length lists
+        → IsSegment cells list None (end_at ends list).first (list_at lists list) (end_at ends list).last None
+    pub apart : (list : ℕ) → AreApart (list_at lists list)
+
+  -- at most so many items on the way from a link
+  abbrev pub walk_from : (ℕ → Option (Node T)) → ℕ → Option ℕ → List (Linked T)
+  walk_from cells zero at = []
+  walk_from cells (suc most) None = []
+  walk_from cells (suc most) (Some link) =
+      unwrap_or (option_map (λ node. record { link = link; item = node.item } ∷ walk_from cells most node.after) (cells link)) []
+
+  -- what the fields show: a walk from each list's first node, over at most as many nodes as there are
+  abbrev pub shown : Slab (Node T) → List Ends → Lists T
+  shown nodes ends =
+      record {
+        lists = map (λ e. walk_from (get nodes) (slab_len nodes) e.first) ends;
+        spare = nodes.capacity - slab_len nodes;
+      }
+
+  -- the fields stand for lists that have all the nodes that there are
+  pub record IsSound (nodes : Slab (Node T)) (ends : List Ends) : Type 0 where
+    pub lists : List (List (Linked T))
+    pub linked : AreLinked (get nodes) ends lists
+    pub counted : slab_len nodes ≡ sum_by length lists
+    pub room : slab_len nodes ≤ nodes.capacity
+
+  -- a node more, under a key that had none
+  pub record AddsNode (node : Node T) (key : ℕ) (old new : Slab (Node T)) : Type 0 where
+    pub vacant : get old key ≡ None
+    pub added : get new key ≡ Some node
+    pub others : (other : ℕ) → other ≢ key → get new other ≡ get old other
+    pub count : slab_len new ≡ slab_len old + 1
+    pub capacity : new.capacity ≡ old.capacity
+
+  -- one node is changed so
+  pub record ChangesNode (change : Node T → Node T) (old : Slab (Node T)) (key : ℕ) (new : Slab (Node T)) : Type 0 where
+    pub changed : (node : Node T) → get old key ≡ Some node → get new key ≡ Some (change node)
+    pub others : (other : ℕ) → other ≢ key → get new other ≡ get old other
+    pub count : slab_len new ≡ slab_len old
+    pub capacity : new.capacity ≡ old.capacity
+
+  -- what follows `before` in the list is `after` now
+  abbrev pub SetsAfter : ℕ → Option ℕ → Option ℕ → Slab (Node T) → List Ends → Slab (Node T) → List Ends → Type 0
+  SetsAfter list after None nodes ends nodes' ends' =
+      (nodes' ≡ nodes) × (ends' ≡ slice_set ends list (record (end_at ends list) { first = after }))
+  SetsAfter list after (Some key) nodes ends nodes' ends' =
+      ChangesNode (λ n. record n { after = after }) nodes key nodes' × (ends' ≡ ends)
+
+  -- what comes before `after` in the list is `before` now
+  abbrev pub SetsBefore : ℕ → Option ℕ → Option ℕ → Slab (Node T) → List Ends → Slab (Node T) → List Ends → Type 0
+  SetsBefore list before None nodes ends nodes' ends' =
+      (nodes' ≡ nodes) × (ends' ≡ slice_set ends list (record (end_at ends list) { last = before }))
+  SetsBefore list before (Some key) nodes ends nodes' ends' =
+      ChangesNode (λ n. record n { before = before }) nodes key nodes' × (ends' ≡ ends)
+
+  -- an item is added under this key, and stands between two neighbours of its list
+  pub record PutsBetween (list : ℕ) (before after : Option ℕ) (item : T) (key : ℕ) (nodes : Slab (Node T)) (ends : List Ends) (nodes' : Slab (Node T)) (ends' : List Ends) : Type 0 where
+    pub more : Slab (Node T)
+    pub adds : AddsNode (record { list = list; before = before; after = after; item = item }) key nodes more
+    pub half : Slab (Node T)
+    pub half_ends : List Ends
+    pub follows : SetsAfter list (Some key) before more ends half half_ends
+    pub precedes : SetsBefore list (Some key) after half half_ends nodes' ends'
