@@ -13,32 +13,27 @@ const SAMPLE: &str =
 fn sample(alloc: Global) -> Result<Rules, Fail>
     ensures { IfOk result IsRules }
 {
-    let rules = read_rules(alloc, SAMPLE.as_bytes()).map_err(|_| "the sample is refused")?;
-    Ok(rules)
+    match read_rules(alloc, SAMPLE.as_bytes()) {
+        Ok(rules) => Ok(rules),
+        Err(_) => Err("the sample is refused")?,
+    }
 }
 
-#[test]
-fn tables(rt: HostRuntime) -> Result<(), Fail> {
-    let rules = sample(rt.alloc())?;
-    let quotes = format!(in rt.alloc(); "{} {}", rules.special_ms, rules.sequential_ms)?;
-    assert_eq!(rt; quotes.as_str(), "180000 60000");
-    let ticks = format!(in rt.alloc(); "{:?}", rules.ticks.as_slice())?;
-    assert_eq!(rt;
-        ticks.as_str(),
-        "[TickRow { upto: 30000, tick: 10 }, TickRow { upto: 1000000000, tick: 50 }]"
-    );
-    let ranges = format!(in rt.alloc(); "{:?}", rules.ranges.as_slice())?;
-    assert_eq!(rt;
-        ranges.as_str(),
-        "[BandRow { below: 15000, value: 300 }, BandRow { below: 20000, value: 400 }, BandRow { below: 30000, value: 500 }, BandRow { below: 1000000001, value: 700 }]"
-    );
-    let rounds = format!(in rt.alloc(); "{:?}", rules.rounds.as_slice())?;
-    assert_eq!(rt;
-        rounds.as_str(),
-        "[Units(1), Part { n: 1, d: 3 }, Part { n: 1, d: 2 }, All]"
-    );
-    Ok(())
+// The tables of the rules, as they are printed for tests.
+fn tables_text(alloc: Global, rules: &Rules) -> Result<String, AllocError> {
+    let quotes = format!(in alloc; "{} {}\n", rules.special_ms, rules.sequential_ms)?;
+    let ticks = format!(in alloc; "{:?}\n", rules.ticks.as_slice())?;
+    let ranges = format!(in alloc; "{:?}\n", rules.ranges.as_slice())?;
+    let rounds = format!(in alloc; "{:?}\n", rules.rounds.as_slice())?;
+    format!(in alloc; "{quotes}{ticks}{ranges}{rounds}")
 }
+
+const TABLES: &str = "\
+180000 60000
+[TickRow { upto: 30000, tick: 10 }, TickRow { upto: 1000000000, tick: 50 }]
+[BandRow { below: 15000, value: 300 }, BandRow { below: 20000, value: 400 }, BandRow { below: 30000, value: 500 }, BandRow { below: 1000000001, value: 700 }]
+[Units(1), Part { n: 1, d: 3 }, Part { n: 1, d: 2 }, All]
+";
 
 // The code and the rules of each issue.
 fn issues_text(alloc: Global, rules: &Rules) -> Result<String, AllocError>
@@ -81,28 +76,52 @@ fn numbers_text(alloc: Global, rules: &Rules, name: &str) -> Result<String, Allo
     format!(in alloc; "{issue:?} {participant:?} {gateway:?}")
 }
 
-#[test]
-fn names_by_number(rt: HostRuntime) -> Result<(), Fail> {
-    let rules = sample(rt.alloc())?;
-    let issues = issues_text(rt.alloc(), &rules)?;
-    assert_eq!(rt;
-        issues.as_str(),
-        "AAAA 20000 100 15000 25000 1001;BBBB 12000 100 9000 15000 601;"
-    );
-    let names = names_text(rt.alloc(), &rules)?;
-    assert_eq!(rt; names.as_str(), "p1p2p3p4p5p6p7p8g1g2g3g4");
-    let cases: [(&str, &str); 7] = [
-        ("AAAA", "Some(0) None None"),
-        ("BBBB", "Some(1) None None"),
-        ("aaaa", "None None None"),
-        ("p8", "None Some(7) None"),
-        ("g4", "None None Some(3)"),
-        ("", "None None None"),
-        ("AAAAAAAAAAAAAAAAAAAA", "None None None"),
-    ];
-    for (name, want) in cases {
-        let numbers = numbers_text(rt.alloc(), &rules, name)?;
-        assert_eq!(rt; numbers.as_str(), want, "at {name}");
+// Names of one list each, in a wrong case, of no list, and too long for any.
+const NAMES: &str = "AAAA BBBB aaaa p8 g4 AAAAAAAAAAAAAAAAAAAA";
+
+const NUMBERS: &str = "\
+Some(0) None None
+Some(1) None None
+None None None
+None Some(7) None
+None None Some(3)
+None None None
+";
+
+fn all_numbers_text(alloc: Global, rules: &Rules) -> Result<String, AllocError>
+    requires { IsRules rules.now }
+{
+    let mut text = String::new(alloc);
+    for name in NAMES.split_whitespace() {
+        text.push_str(numbers_text(alloc, rules, name)?.as_str())?;
+        text.push_str("\n")?;
     }
+    Ok(text)
+}
+
+// All that the tests look at. (A function that lets rules go has a step of the prover for each of their parts at each
+// of its ends, so only one has them.)
+fn sample_text(alloc: Global) -> Result<String, Fail> {
+    let rules = sample(alloc)?;
+    Ok(text_of(alloc, &rules)?)
+}
+
+fn text_of(alloc: Global, rules: &Rules) -> Result<String, AllocError>
+    requires { IsRules rules.now }
+{
+    let tables = tables_text(alloc, rules)?;
+    let issues = issues_text(alloc, rules)?;
+    let names = names_text(alloc, rules)?;
+    let numbers = all_numbers_text(alloc, rules)?;
+    format!(in alloc; "{tables}{issues}\n{names}\n{numbers}")
+}
+
+#[test]
+fn the_sample_is_read(rt: HostRuntime) -> Result<(), Fail> {
+    let text = sample_text(rt.alloc())?;
+    let want = format!(in rt.alloc();
+        "{TABLES}AAAA 20000 100 15000 25000 1001;BBBB 12000 100 9000 15000 601;\np1p2p3p4p5p6p7p8g1g2g3g4\n{NUMBERS}"
+    )?;
+    assert_eq!(rt; text.as_str(), want.as_str());
     Ok(())
 }

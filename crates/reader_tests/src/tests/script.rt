@@ -21,8 +21,10 @@ fn rules(alloc: Global, gateways: &str) -> Result<Rules, Fail>
     for part in [HEAD, gateways, TAIL] {
         text.extend_from_slice(part.as_bytes())?;
     }
-    let rules = read_rules(alloc, &text).map_err(|_| "the rules are refused")?;
-    Ok(rules)
+    match read_rules(alloc, &text) {
+        Ok(rules) => Ok(rules),
+        Err(_) => Err("the rules are refused")?,
+    }
 }
 
 fn two_gateways(alloc: Global) -> Result<Rules, Fail>
@@ -120,28 +122,45 @@ const FAULTS: &str = "
 3 4: g1 * clock 08:00:00^g1 * clock 08:00:00^g9
 ";
 
-// What the script of a case reads as, and what is wanted.
-fn told_of_case(alloc: Global, rules: &Rules, case: &str) -> Result<(String, String), Fail>
+// What the script of a case reads as, behind the case.
+fn told_of_case(alloc: Global, rules: &Rules, case: &str) -> Result<String, Fail>
     requires { IsRules rules.now }
 {
     let Some((want, text)) = case.split_once(": ") else {
         return Err("a case without a colon")?;
     };
     let text = text.replace(alloc, "^", "\n")?;
-    let want = String::from_str(alloc, want)?;
-    Ok((told(alloc, rules, text.as_bytes())?, want))
+    let told = told(alloc, rules, text.as_bytes())?;
+    if told.as_str() == want {
+        return Ok(String::new(alloc));
+    }
+    Ok(format!(in alloc; "{told} in place of {case}\n")?)
 }
 
-#[test]
-fn faults(rt: HostRuntime) -> Result<(), Fail> {
-    let rules = rules(rt.alloc(), "gateways = [\"g1\"]\n")?;
+// The cases that read as something else than is wanted.
+fn wrong_cases(alloc: Global, rules: &Rules) -> Result<String, Fail>
+    requires { IsRules rules.now }
+{
+    let mut wrong = String::new(alloc);
     for case in FAULTS.lines() {
         if case.is_empty() || case.starts_with("#") {
             continue;
         }
-        let (told, want) = told_of_case(rt.alloc(), &rules, case)?;
-        assert_eq!(rt; told.as_str(), want.as_str(), "of {case}");
+        wrong.push_str(told_of_case(alloc, rules, case)?.as_str())?;
     }
+    Ok(wrong)
+}
+
+// (Functions that own rules are few and short, since each of their ends lets all parts of the rules go.)
+fn wrong_faults(alloc: Global) -> Result<String, Fail> {
+    let rules = rules(alloc, "gateways = [\"g1\"]\n")?;
+    wrong_cases(alloc, &rules)
+}
+
+#[test]
+fn faults(rt: HostRuntime) -> Result<(), Fail> {
+    let wrong = wrong_faults(rt.alloc())?;
+    assert_eq!(rt; wrong.as_str(), "");
     Ok(())
 }
 
@@ -152,9 +171,10 @@ fn long(alloc: Global, piece: &str, times: u32, end: &str) -> Result<Vec<u8>, Al
     Ok(text)
 }
 
-#[test]
-fn limits(rt: HostRuntime) -> Result<(), Fail> {
-    let rules = two_gateways(rt.alloc())?;
+// The limits that are not met.
+fn wrong_limits(alloc: Global, rules: &Rules) -> Result<String, Fail>
+    requires { IsRules rules.now }
+{
     // (a piece, how often it stands, what stands behind it, and what that reads as)
     let cases: [(&str, u32, &str, &str); 10] = [
         ("", 0, "", "read 0"),
@@ -178,11 +198,28 @@ fn limits(rt: HostRuntime) -> Result<(), Fail> {
             "500000 8",
         ),
     ];
+    let mut wrong = String::new(alloc);
     for (piece, times, end, want) in cases {
-        let text = long(rt.alloc(), piece, times, end)?;
-        let told = told(rt.alloc(), &rules, &text)?;
-        assert_eq!(rt; told.as_str(), want, "{times} times {piece}");
+        let text = long(alloc, piece, times, end)?;
+        let told = told(alloc, rules, &text)?;
+        if told.as_str() != want {
+            wrong.push_str(told.as_str())?;
+            wrong.push_str(", wanted ")?;
+            wrong.push_str(want)?;
+        }
     }
+    Ok(wrong)
+}
+
+fn wrong_limits_of_two(alloc: Global) -> Result<String, Fail> {
+    let rules = two_gateways(alloc)?;
+    wrong_limits(alloc, &rules)
+}
+
+#[test]
+fn limits(rt: HostRuntime) -> Result<(), Fail> {
+    let wrong = wrong_limits_of_two(rt.alloc())?;
+    assert_eq!(rt; wrong.as_str(), "");
     Ok(())
 }
 
@@ -205,14 +242,26 @@ const WHOLE_LINES: &str = "\
 2 ScriptLine { line: 3, stage: 0, issue: 1, act: Do(Order { participant: Participant(2), side: Buy, kind: Market, qty: Qty(0) }) }
 1 ScriptLine { line: 4, stage: 0, issue: 0, act: Do(Order { participant: Participant(0), side: Sell, kind: Limit(Price(4294967295)), qty: Qty(4294967295) }) }
 1 ScriptLine { line: 5, stage: 0, issue: 1, act: Do(Clock { at: Moment { ms: 86399999 } }) }
+1
 ";
+
+// The lines of the script, and behind them how many stages it has.
+fn whole_text(alloc: Global) -> Result<String, Fail> {
+    let rules = two_gateways(alloc)?;
+    text_of(alloc, &rules)
+}
+
+fn text_of(alloc: Global, rules: &Rules) -> Result<String, Fail>
+    requires { IsRules rules.now }
+{
+    let script = script(alloc, rules, WHOLE.as_bytes()).map_err(|_| "the script is refused")?;
+    let lines = lines_text(alloc, &script)?;
+    Ok(format!(in alloc; "{lines}{}\n", script.stages)?)
+}
 
 #[test]
 fn a_script_is_read_whole(rt: HostRuntime) -> Result<(), Fail> {
-    let rules = two_gateways(rt.alloc())?;
-    let script = script(rt.alloc(), &rules, WHOLE.as_bytes()).map_err(|_| "the script is refused")?;
-    let lines = lines_text(rt.alloc(), &script)?;
-    assert_eq!(rt; lines.as_str(), WHOLE_LINES);
-    assert_eq!(rt; script.stages, 1);
+    let text = whole_text(rt.alloc())?;
+    assert_eq!(rt; text.as_str(), WHOLE_LINES);
     Ok(())
 }
