@@ -13,7 +13,6 @@ use Rattle.rules_file.specs.Faults.{Fails, fault_number}
 use Rattle.rules_file.specs.Rules.{rules_of}
 use Rattle.rules_file.specs.declared.fault.RulesFault.{RulesFault}
 use Rattle.rules_file.specs.declared.fault.RulesFault.TheVariants as faults
-use Rattle.rules_report.specs.FaultLine.{fault_line}
 use Rattle.rules_file.specs.declared.rules.Rules.{Rules}
 use Rattle.market_top.specs.Auction.{IsAuctionVerdict, IsFileVerdict, certified}
 use Rattle.market_top.specs.Check.{IsCheckVerdict, OnRules, no_rules, refused_rules, tabled}
@@ -134,11 +133,7 @@ pub no-rules-out : (fault : RulesFault) → (no_rules fault).out ≡ []
 no-rules-out faults.Memory = refl
 no-rules-out fault = refl
 
--- the line of a fault, and the status
-pub no-rules-err : (fault : RulesFault) → (no_rules fault).err ≡ fault_line fault
-no-rules-err faults.Memory = refl
-no-rules-err fault = refl
-
+-- the status of a fault, by its number
 pub refused-status : (fault : RulesFault) (n : ℕ) → Some n ≡ fault_number fault → 1 ≡ (no_rules fault).status
 refused-status faults.Memory n e = absurd (cc)
 refused-status fault n e = refl
