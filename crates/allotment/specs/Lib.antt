@@ -1,1 +1,4 @@
+pub mod Allotment
+pub mod Laws
 pub mod Rounds
+pub mod Sorting

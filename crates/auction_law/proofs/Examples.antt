@@ -8,7 +8,9 @@ use Rattle.mkt_base.specs.declared.order.Spot.{Spot}
 use Rattle.mkt_base.specs.declared.order.Spot.TheVariants.{Market, At}
 use Rattle.mkt_base.specs.declared.order.Order.{Order}
 use Rattle.auction_law.specs.Nearness.{by_nearness}
-use Rattle.auction_law.specs.Attempt.{meets, chosen, nearer_prices, is_calm, is_traded, is_pressed_buy, is_pressed_sell, best_bid, best_ask}
+use Rattle.mkt_base.specs.declared.auction.Sums.{Sums}
+use Rattle.mkt_base.specs.declared.auction.Outcome.TheVariants.{Traded, Calm, Pressed}
+use Rattle.auction_law.specs.Attempt.{attempt, meets, chosen, nearer_prices, is_calm}
 
 abbrev price : ℕ → Price
 price p = record { 0 = p }
@@ -45,10 +47,17 @@ reference_is_chosen : chosen grid wide 1050 ≡ Some 1050
 unfolding chosen meets total_left
 reference_is_chosen = refl
 
--- the chosen price lies outside of a narrow window
-outside : is_traded grid traded 1050 1050 1050 ≡ false
-unfolding is_traded chosen meets total_left
-outside = refl
+abbrev sums : ℕ → ℕ → ℕ → ℕ → ℕ → Sums
+sums p buys above sells below = record { price = price p; buys = buys; above = above; sells = sells; below = below }
+
+it_trades : attempt grid traded 1050 1000 1100 ≡ Traded 400 (sums 1060 500 300 400 400)
+unfolding attempt is_calm chosen meets total_left
+it_trades = refl
+
+-- in a narrow window it does not, since the chosen price lies above: 500 are bought above 1050, and 400 sold there
+outside_of_the_window : attempt grid traded 1050 1050 1050 ≡ Pressed Buy (price 1050) 500 400
+unfolding attempt is_calm chosen meets total_left
+outside_of_the_window = refl
 
 -- an empty auction is calm, and no price meets the conditions
 empty_is_calm : is_calm grid [] ≡ true
@@ -59,39 +68,21 @@ none_chosen : chosen grid [] 1050 ≡ None
 unfolding chosen meets total_left
 none_chosen = refl
 
--- more is bought at any price than is sold at all
-abbrev market_buy : List Order
-market_buy = plain_order 2 Buy Market 500 ∷ plain_order 3 Sell (At 0) 300 ∷ []
-
-buyers_press : is_pressed_buy grid market_buy 1050 1000 1100 ≡ true
-unfolding is_pressed_buy is_calm is_traded chosen meets total_left
-buyers_press = refl
-
-buyers_alone : is_pressed_sell grid market_buy 1050 1000 1100 ≡ false
-unfolding is_pressed_sell is_calm is_traded chosen meets total_left
-buyers_alone = refl
-
 -- more is sold at any price than is bought at all
 abbrev market_sell : List Order
 market_sell = plain_order 2 Buy (At 10) 300 ∷ plain_order 3 Sell Market 500 ∷ []
 
-sellers_press : is_pressed_sell grid market_sell 1050 1000 1100 ≡ true
-unfolding is_pressed_sell is_calm is_traded chosen meets total_left
+sellers_press : attempt grid market_sell 1050 1000 1100 ≡ Pressed Sell (price 1000) 500 300
+unfolding attempt is_calm chosen meets total_left
 sellers_press = refl
 
 -- a limit buy below a limit sell
 abbrev apart : List Order
 apart = plain_order 2 Buy (At 0) 100 ∷ plain_order 3 Sell (At 1) 100 ∷ []
 
-nobody_presses : is_calm grid apart ≡ true
-unfolding is_calm
+nobody_presses : attempt grid apart 1050 1000 1100 ≡ Calm (Some (price 1000)) (Some (price 1010))
+unfolding attempt is_calm chosen meets total_left
 nobody_presses = refl
-
-highest_buy : best_bid grid apart ≡ Some (price 1000)
-highest_buy = refl
-
-lowest_sell : best_ask grid apart ≡ Some (price 1010)
-lowest_sell = refl
 
 -- a market order beside them has to trade
 abbrev apart_and_market : List Order

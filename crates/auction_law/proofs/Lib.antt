@@ -6,6 +6,7 @@ pub mod CalmBookLemmas
 pub mod TradedLemmas
 pub mod PressedLemmas
 pub mod LawLemmas
+pub mod AttemptLemmas
 pub mod WalkLemmas
 pub mod ChoiceLemmas
 pub mod CalmLemmas

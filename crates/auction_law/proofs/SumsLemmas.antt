@@ -61,11 +61,12 @@ pub limit-weaker : (f g : ℕ → Bool) (limit : Option ℕ) → ((p : ℕ) → 
 limit-weaker f g None h t = refl
 limit-weaker f g (Some p) h t = h p refl t
 
-and-weaker : (a b c : Bool) → (b ≡ true → c ≡ true) → (a && b) ≡ true → (a && c) ≡ true
+-- a test that also asks for the side
+pub and-weaker : (a b c : Bool) → (b ≡ true → c ≡ true) → (a && b) ≡ true → (a && c) ≡ true
 and-weaker true b c h t = h t
 and-weaker false b c h t = t
 
-and-first : (a b : Bool) → (a && b) ≡ true → a ≡ true
+pub and-first : (a b : Bool) → (a && b) ≡ true → a ≡ true
 and-first true b t = refl
 and-first false b t = t
 
@@ -88,6 +89,13 @@ sells-rise grid orders p q h = total_left-mono (is_sell_at grid p) (is_sell_at g
 
 pub below-rise : (grid : List Price) (orders : List Order) (p q : ℕ) → p ≤ q → below grid orders p ≤ below grid orders q
 below-rise grid orders p q h = total_left-mono (is_sell_below grid p) (is_sell_below grid q) orders (λ k d l. and-weaker _ _ _ (limit-weaker (λ x. ltb x p) (λ x. ltb x q) (limit_of grid (get_or orders k d).spot) (λ x e t. grind (arith, nat_tests))))
+
+-- what buys at a price buys above each lower one, and what sells at a price sells below each higher one
+pub buys-le-above : (grid : List Price) (orders : List Order) (p q : ℕ) → p < q → buys grid orders q ≤ above grid orders p
+buys-le-above grid orders p q h = total_left-mono (is_buy_at grid q) (is_buy_above grid p) orders (λ k d l. and-weaker _ _ _ (limit-weaker (λ x. leb q x) (λ x. ltb p x) (limit_of grid (get_or orders k d).spot) (λ x e t. grind (arith, nat_tests))))
+
+pub sells-le-below : (grid : List Price) (orders : List Order) (p q : ℕ) → p < q → sells grid orders p ≤ below grid orders q
+sells-le-below grid orders p q h = total_left-mono (is_sell_at grid p) (is_sell_below grid q) orders (λ k d l. and-weaker _ _ _ (limit-weaker (λ x. leb x p) (λ x. ltb x q) (limit_of grid (get_or orders k d).spot) (λ x e t. grind (arith, nat_tests))))
 
 -- the limit of an order on the grid is a grid price
 pub limit-on_grid : (grid : List Price) (spot : Spot) (p : ℕ) → IsOnGrid grid spot → limit_of grid spot ≡ Some p → (i : ℕ) × (i < length grid) × (p ≡ price_at grid i)

@@ -1,5 +1,5 @@
 -- Lemmas on the chosen price, and on whether it lies in the window.
-use Rattle.std.proofs.Common.{◌≡◌, ℕ, ◌<◌, ◌≤◌, Bool, true, false, nat_le, ◌&&◌, ◌⊎◌, inl, inr, List, Option, Some, None, refl, sym, ap, ◌∙◌, arith, le-leb}
+use Rattle.std.proofs.Common.{◌≡◌, ℕ, ◌<◌, ◌≤◌, Bool, true, false, nat_le, ◌&&◌, ◌⊎◌, inl, inr, List, Option, Some, None, refl, sym, ap, ◌∙◌, arith, le-leb, leb-true}
 use Rattle.std.specs.Option.{option_map_or}
 use Rattle.mkt_base.specs.declared.units.Price.{Price}
 use Rattle.mkt_base.specs.declared.order.Order.{Order}
@@ -7,7 +7,7 @@ use Rattle.auction_law.specs.Nearness.{by_nearness, prices_of}
 use Rattle.auction_law.specs.Attempt.{meets, chosen, is_calm, is_traded}
 use Rattle.auction_law.proofs.NearnessLemmas.{lt_or_le, IsIn, key, key-below, key-above, by_nearness-near, IsIn-by_nearness, IsIn-from_by_nearness, find_passes, find_in, find_some, find_nearest}
 use Rattle.auction_law.proofs.MeetsLemmas.{meets-tells, meets-between}
-use Rattle.auction_law.proofs.CalmBookLemmas.{and-true, calm-apart}
+use Rattle.auction_law.proofs.CalmBookLemmas.{and-left, and-right, and-true, calm-apart}
 
 -- the chosen price and the others that meet the conditions
 pub chosen-meets : (grid : List Price) (orders : List Order) (r w : ℕ) → chosen grid orders r ≡ Some w → meets grid orders w ≡ true
@@ -35,6 +35,16 @@ outside-cases lo hi p e = elim (lt_or_le p lo) [
   | inl h ↦ inl h
   | inr h ↦ elim (lt_or_le hi p) [ inl k ↦ inr k | inr k ↦ let t : (nat_le lo p && nat_le p hi) ≡ true = and-true _ _ (le-leb _ _ h) (le-leb _ _ k) in absurd (cc) ]
 ]
+
+-- what trades has a chosen price, in the window
+pub traded-chosen : (grid : List Price) (orders : List Order) (r lo hi : ℕ) → is_traded grid orders r lo hi ≡ true → (p : ℕ) × (chosen grid orders r ≡ Some p) × (lo ≤ p) × (p ≤ hi)
+traded-chosen grid orders r lo hi t = at (chosen grid orders r) refl
+  where
+    at : (o : Option ℕ) → chosen grid orders r ≡ o → (p : ℕ) × (chosen grid orders r ≡ Some p) × (lo ≤ p) × (p ≤ hi)
+    at None e = let f = traded-at grid orders r lo hi None e in absurd (cc)
+    at (Some p) e =
+        let inside : (nat_le lo p && nat_le p hi) ≡ true = sym (traded-at grid orders r lo hi (Some p) e) ∙ t in
+        (p, e, leb-true _ _ (and-left (nat_le lo p) _ inside), leb-true _ _ (and-right (nat_le lo p) _ inside))
 
 -- where the window has such a price, the chosen one lies in the window
 pub traded-from_meets : (grid : List Price) (orders : List Order) (r lo hi q : ℕ) → lo ≤ r → r ≤ hi → lo ≤ q → q ≤ hi → IsIn r (prices_of grid) → IsIn q (prices_of grid)

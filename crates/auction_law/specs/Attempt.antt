@@ -105,6 +105,35 @@ IsAttempt grid orders reference lo hi (Pressed Buy price pressing facing) =
 IsAttempt grid orders reference lo hi (Pressed Sell price pressing facing) =
     IsTrue (is_pressed_sell grid orders reference lo hi) × (price.0 ≡ lo) × (pressing ≡ below grid orders lo) × (facing ≡ buys grid orders lo)
 
+-- the answer where it trades at a price
+abbrev pub traded_outcome : List Price → List Order → ℕ → Outcome
+traded_outcome grid orders p = Traded (volume_at grid orders p) (sums_at grid orders p)
+
+-- the answers of a side that presses: buyers at the window's upper end, sellers at its lower end
+abbrev pub pressed_buy : List Price → List Order → ℕ → Outcome
+pressed_buy grid orders hi = Pressed Buy (record { 0 = hi }) (above grid orders hi) (sells grid orders hi)
+
+abbrev pub pressed_sell : List Price → List Order → ℕ → Outcome
+pressed_sell grid orders lo = Pressed Sell (record { 0 = lo }) (below grid orders lo) (buys grid orders lo)
+
+-- a price where it lies in the window
+abbrev pub within : ℕ → ℕ → Option ℕ → Option ℕ
+within lo hi None = None
+within lo hi (Some p) = if nat_le lo p && nat_le p hi then Some p else None
+
+-- where nothing trades: calm, or else pressed on the buy side where more is bought above the upper end than is sold there, or
+-- else on the sell side
+abbrev pub not_traded : List Price → List Order → ℕ → ℕ → Outcome
+not_traded grid orders lo hi =
+    if is_calm grid orders then Calm (best_bid grid orders) (best_ask grid orders)
+    else if nat_lt (sells grid orders hi) (above grid orders hi) then pressed_buy grid orders hi
+    else pressed_sell grid orders lo
+
+-- the answer of the attempt: traded at the chosen price, where it lies in the window
+unfoldable pub attempt : List Price → List Order → ℕ → ℕ → ℕ → Outcome
+attempt grid orders reference lo hi =
+    option_map_or (traded_outcome grid orders) (within lo hi (chosen grid orders reference)) (not_traded grid orders lo hi)
+
 -- the certificate of an outcome: where it trades, the prices nearer than the chosen one with their sums
 abbrev pub certificate_of : List Price → List Order → ℕ → Outcome → Certificate
 certificate_of grid orders reference (Traded volume sums) =

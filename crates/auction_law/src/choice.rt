@@ -54,8 +54,9 @@ fn is_within(price: Price, lo: Price, hi: Price) -> bool
     lo <= price && price <= hi
 }
 
-// At least one share trades, and so does all that is better than the price on either side.
-fn meets(sums: &Sums) -> bool
+/// Whether the price of these sums meets the three conditions: at least one share trades, and so does all that is better
+/// than the price on either side.
+pub fn meets(sums: &Sums) -> bool
     ensures { result ≡ (nat_le 1 (min sums.now.buys sums.now.sells) && nat_le sums.now.above (min sums.now.buys sums.now.sells)
         && nat_le sums.now.below (min sums.now.buys sums.now.sells)) }
 {

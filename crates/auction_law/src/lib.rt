@@ -9,7 +9,11 @@ mod nearness;
 mod sums;
 
 pub use attempt::{best_ask, best_bid, plain_attempt};
-pub use choice::chosen_sums;
-pub use law::{chosen_is_nearest, levels_answer_alike, one_answer};
+pub use choice::{chosen_sums, meets};
+pub use law::{
+    attempt_is_the_outcome, chosen_is_nearest, levels_answer_alike, meeting_trades_most,
+    one_answer, one_run_meets, sums_go_one_way, tie_never_decides, trades_unless_pressed,
+    trades_where_some_meets,
+};
 pub use nearness::ByNearness;
 pub use sums::{limit_of, plain_sums};
