@@ -1,0 +1,4 @@
+pub mod BookView
+pub mod Laws
+pub mod Paired
+pub mod Sides

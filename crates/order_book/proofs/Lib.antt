@@ -1,0 +1,9 @@
+pub mod CallLemmas
+pub mod FirstLemmas
+pub mod NextLemmas
+pub mod PlaceLemmas
+pub mod PlainLemmas
+pub mod RankLemmas
+pub mod SideLemmas
+pub mod SumLemmas
+pub mod ViewLemmas

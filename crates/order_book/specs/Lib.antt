@@ -1,0 +1,3 @@
+pub use Rattle.book_law.specs.BookView
+pub mod Levels
+pub mod Plain
