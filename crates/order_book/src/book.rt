@@ -45,7 +45,8 @@ impl Model for Book {
 }
 
 impl Book {
-    /// A book without orders over a grid of `prices` prices, with room for `capacity` orders at a time.
+    /// A book without orders over a grid of `prices` prices, 1 to 20,000, with room for `capacity` orders at a time; `Memory`
+    /// where there is no memory for them.
     pub fn make(alloc: Global, prices: u32, capacity: u32) -> Result<Book, BookFault>
         requires some { 1 ≤ prices }
         requires few { prices ≤ 20000 }
@@ -74,7 +75,8 @@ impl Book {
         self.prices
     }
 
-    /// Takes an order in, and gives the handle that names it. The order's place is later than all others.
+    /// Takes an order in, and gives the handle that names it. The order's place is later than all others, it has 1 to
+    /// 100,000,000 shares left, and there is room. Every other handle names what it named.
     pub fn insert(&mut self, order: Order) -> Handle
         requires { IsFresh self.old order }
         ensures { IsInserted self.old order result self.new }
@@ -103,7 +105,7 @@ impl Book {
         self.orders[at].left -= by;
     }
 
-    /// Takes an order out, and gives it as it was.
+    /// Takes an order out, and gives it as it was. There is room for another, and every other order stays.
     pub fn remove(&mut self, handle: Handle) -> Order
         requires { IsLive self.old handle }
         ensures order { Names self.old handle result }
