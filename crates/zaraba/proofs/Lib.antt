@@ -1,5 +1,7 @@
 mod Examples
 pub mod ArrivingLemmas
+pub mod CalmLemmas
 pub mod CrossedLemmas
+pub mod DoneLemmas
 pub mod NextLemmas
 pub mod WalkLemmas

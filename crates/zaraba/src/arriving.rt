@@ -6,6 +6,7 @@ ghost use Rattle.mkt_base.specs.declared.output.Output.{Output};
 ghost use Rattle.tick_grid.specs.Rows.{AreBandRows, band_of};
 ghost use Rattle.auction_law.specs.Attempt.{is_calm};
 ghost use Rattle.book_law.specs.BookView.{IsFresh, IsSpotBelow, Names, orders};
+ghost use Rattle.zaraba.specs.declared.stop.Stop.TheVariants.{Done};
 ghost use Rattle.zaraba.specs.Arrival.{arrival, book_after, rest_of, trade_with};
 ghost use Rattle.zaraba.specs.Walk.{Awaits, IsNext, IsStopped, IsWalked, IsWalking, with_left};
 
@@ -27,7 +28,8 @@ pub struct Arrived {
 
 /// Lets an order trade with the best opposite orders that it crosses, at their prices, until the next price is too far by
 /// the ranges, and puts what is left of it into the book. Tells a watch its trades. The book is over as many prices as the
-/// grid has, and holds no market order and no limit buy at or above a limit sell. `last` is the position of the last price.
+/// grid has, and holds no market order and no limit buy at or above a limit sell; it is so afterwards, too, where the stop
+/// is `Done`. `last` is the position of the last price.
 pub fn incoming<W: Watch>(
     book: &mut Book,
     grid: &Grid,
@@ -47,12 +49,14 @@ pub fn incoming<W: Watch>(
     ensures in_range { result.last < length grid.now }
     ensures book { orders book.new
         ≡ book_after (arrival grid.now (band_of ranges.now) (orders book.old) order (price_at grid.now last)) (orders book.old) order }
+    ensures calm { result.stop ≡ Done → IsTrue (is_calm grid.now (orders book.new)) }
     ensures prices { book.new.prices ≡ book.old.prices }
     ensures capacity { book.new.capacity ≡ book.old.capacity }
     ensures told { (from : W) (outputs : List Output) → W.took from outputs watch.old
         → W.took from (outputs ++ map (λ t. Output.Traded t)
         (arrival grid.now (band_of ranges.now) (orders book.old) order (price_at grid.now last)).trades) watch.new }
 {
+    book.stands();
     let arrived = walk(book, grid, ranges, &order, last, watch);
     join(book, &order, arrived.left);
     arrived

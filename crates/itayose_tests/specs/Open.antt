@@ -1,0 +1,11 @@
+-- A book that a line of a table fills.
+use Rattle.std.specs.Prelude.{◌≡◌, ℕ, ◌<◌, ◌≤◌, length, All}
+use Rattle.book_law.specs.BookView.{BookView}
+
+-- a book of 8 prices for 9 orders, whose places and numbers are below n, and that has fewer than n of them
+pub record IsOpen (n : ℕ) (b : BookView) : Type 0 where
+  pub prices : b.prices ≡ 8
+  pub capacity : b.capacity ≡ 9
+  pub few : length b.slots < n
+  pub places : All (λ s. s.order.place < n) b.slots
+  pub numbers : All (λ s. s.order.own < n) b.slots
