@@ -14,6 +14,7 @@ use Rattle.mkt_base.specs.declared.order.Order.{Order}
 use Rattle.mkt_base.proofs.PriorityLemmas.{in_priority-ranked}
 use Rattle.book_law.proofs.Pairs.{Pairs, all-append, pairs-from_AllPairs, with-first}
 
+-- both of two tests that pass together
 pub and-left : (a b : Bool) → (a && b) ≡ true → a ≡ true
 and-left true b e = refl
 and-left false b e = absurd (cc)

@@ -4,7 +4,6 @@ pub mod Sides
 pub mod Views
 pub mod SideSums
 pub mod PlaceLemmas
-pub mod Ranks
 pub mod TakenLemmas
 pub mod PairLemmas
 pub mod Pairing

@@ -8,6 +8,7 @@ use Rattle.mkt_base.specs.declared.order.Order.{Order}
 use Rattle.book_law.specs.BookView.{less}
 use Rattle.book_law.specs.Paired.{paired, trade_of}
 use Rattle.book_law.specs.Sides.{has_place}
+use Rattle.book_law.proofs.Views.{less-none}
 use Rattle.book_law.proofs.PairLemmas.{buy-skipped, both-less, fill, none-front, nothing-bought, sell-skipped}
 
 -- an empty filter fails at the head and is empty behind it
@@ -28,13 +29,10 @@ module _ (t : Trade) where
   unfolding traded_at
   own-less b o e = ap (λ n. record o { left = o.left - n }) (taken-by (eqb o.place t.buy || eqb o.place t.sell) t.qty ∙ ap (λ c. cond c t.qty 0) e)
 
-  same-left : (o : Order) → less 0 o ≡ o
-  same-left o = let same : o.left - 0 ≡ o.left = omega arith in ap (λ n. record o { left = n }) same
-
   other-order : (o : Order) → eqb t.buy o.place ≡ false → eqb t.sell o.place ≡ false → less_traded (t ∷ []) o ≡ o
   other-order o e f =
       let apart : (eqb o.place t.buy || eqb o.place t.sell) ≡ false = grind (arith, nat_tests, e, f) in
-      own-less false o apart ∙ same-left o
+      own-less false o apart ∙ less-none o
 
   other-step : (o : Order) (os : List Order) → eqb t.buy o.place ≡ false → eqb t.sell o.place ≡ false → 0 < o.left → after_trades (t ∷ []) (o ∷ os) ≡ o ∷ after_trades (t ∷ []) os
   unfolding after_trades

@@ -60,7 +60,8 @@ module _ (h : ℕ) (o : Order) where
       found-all b.slots (pairs-from_AllPairs (λ s t. s.order.place < t.order.place) b.slots stands.by_place)
       (pairs-from_AllPairs (λ s t. s.handle ≢ t.handle) b.slots stands.handles) names
 
-less-none : (o : Order) → less 0 o ≡ o
+-- no shares less are all
+pub less-none : (o : Order) → less 0 o ≡ o
 less-none o = let same : o.left - 0 ≡ o.left = omega arith in ap (λ n. record o { left = n }) same
 
 module _ (h by : ℕ) (o : Order) where
@@ -142,9 +143,11 @@ module _ (h k : ℕ) (x : Order) (other : eqb h k ≡ false) where
   less-all by [] names = names
   less-all by (s ∷ ss) names = less-step by (is_at k s) s ss refl (less-all by ss) names
 
+  -- when the order of the one is taken out
   pub names-without : (b : BookView) → Names b k x → Names (without h b) k x
   names-without b names = gone-all b.slots names
 
+  -- and when it has fewer shares
   pub names-reduced : (by : ℕ) (b : BookView) → Names b k x → Names (reduced h by b) k x
   names-reduced by b names = less-all by b.slots names
 

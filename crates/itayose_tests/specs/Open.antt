@@ -1,5 +1,5 @@
 -- A book that a line of a table fills.
-use Rattle.std.specs.Prelude.{◌≡◌, ℕ, ◌<◌, ◌≤◌, length, All}
+use Rattle.std.specs.Prelude.{◌≡◌, ℕ, ◌<◌, length, All}
 use Rattle.book_law.specs.BookView.{BookView}
 
 -- a book of 8 prices for 9 orders, whose places and numbers are below n, and that has fewer than n of them

@@ -1,8 +1,7 @@
 -- An order on its way: a trade with the next one, and trades one after another.
-use Rattle.std.proofs.Common.{◌≡◌, ℕ, ◌-◌, ◌<◌, ◌≤◌, min, Bool, true, false, cond, eqb, leb, ltb, not, IsTrue, List, [], ◌∷◌, ◌++◌, length, map, append_assoc, append-nil, refl, sym, ap, subst, ◌∙◌, arith}
-use Rattle.std.specs.List.{All, AllByRecursion, list_all, list_any}
+use Rattle.std.proofs.Common.{◌≡◌, ℕ, ◌-◌, ◌<◌, ◌≤◌, min, true, false, cond, eqb, ltb, IsTrue, List, [], ◌∷◌, ◌++◌, length, map, append_assoc, append-nil, refl, sym, ap, subst, ◌∙◌, arith}
+use Rattle.std.specs.List.{All, AllByRecursion}
 use Rattle.std.specs.Option.{is_some}
-use Rattle.std.proofs.lemmas.Bool.{and_parts}
 use Rattle.std.proofs.lemmas.Bool.Decides.{nat_tests}
 use Rattle.std.proofs.lemmas.List.{get_or-map, length-map, map-append}
 use Rattle.std.proofs.lemmas.List.Elements.{All-from_recursion, All-map, recursion_from_All}
@@ -14,7 +13,7 @@ use Rattle.mkt_base.specs.declared.output.Output.{Output}
 use Rattle.mkt_base.specs.declared.output.Output.TheVariants.{Traded}
 use Rattle.mkt_base.specs.declared.units.Price.{Price}
 use Rattle.mkt_base.proofs.TradeLemmas.{trades-twice}
-use Rattle.auction_law.specs.Attempt.{all_limited, is_calm, limits as limits_of}
+use Rattle.auction_law.specs.Attempt.{is_calm}
 use Rattle.book_law.specs.BookView.{BookView, IsBookView, IsFresh, IsSpotBelow, is_of, less, orders, taken}
 use Rattle.book_law.proofs.FrontLemmas.{in_priority-all, orders-below, orders-left, orders-rising}
 use Rattle.book_law.proofs.Pairs.{weaken}
@@ -24,6 +23,7 @@ use Rattle.zaraba.specs.Arrival.{arrival_over, crossed, limit_price, opposite, t
 use Rattle.zaraba.specs.Walk.{Awaits, IsNext, IsStopped, IsWalked, IsWalking, ahead, with_left, with_trades}
 use Rattle.zaraba.specs.declared.next.Next.{Next}
 use Rattle.zaraba.specs.declared.stop.Stop.TheVariants.{Done}
+use Rattle.zaraba.proofs.CalmLemmas.{calm-limited}
 use Rattle.zaraba.proofs.CrossedLemmas.{meets-first, taken-traded_with}
 use Rattle.zaraba.proofs.NextLemmas.{front-is, limits, own-price, rest}
 use Rattle.zaraba.proofs.WalkLemmas.{walk-done}
@@ -155,18 +155,12 @@ still-fresh grid o old new left fresh size awaits some within =
       spot = subst (λ n. IsSpotBelow n o.spot) (sym size ∙ awaits.size) fresh.spot;
     }
 
-all-pass : (t : Order → Bool) (os : List Order) → list_all t os ≡ true → AllByRecursion (λ o. t o ≡ true) os
-all-pass t [] e = tt
-all-pass t (o ∷ os) e = let parts = and_parts (t o) (list_all t os) e in (parts.0, all-pass t os parts.1)
-
 -- a book without market orders that is fresh for an order awaits it
 pub awaits-fresh : (grid : List Price) (o : Order) (b : BookView) → IsFresh b o → length grid ≡ b.prices → IsTrue (is_calm grid (orders b)) → Awaits grid o b
-unfolding is_calm
 awaits-fresh grid o b fresh size calm =
-    let limited = and_parts (all_limited grid (orders b)) (not (list_any (λ bid. list_any (λ ask. leb ask bid) (limits_of grid false (orders b))) (limits_of grid true (orders b)))) calm in
     record {
       size = size;
-      limited = All-from_recursion (λ x. is_some (limit_of grid x.spot) ≡ true) (orders b) (all-pass (λ x. is_some (limit_of grid x.spot)) (orders b) limited.0);
+      limited = All-from_recursion (λ x. is_some (limit_of grid x.spot) ≡ true) (orders b) (calm-limited grid (orders b) calm);
       earlier = All-map (λ x. x.place < o.place) (λ s. s.order) b.slots fresh.last;
       others = All-map (λ x. is_of o.caller o.own x ≡ false) (λ s. s.order) b.slots fresh.pair;
       room = fresh.room;

@@ -1,16 +1,12 @@
 -- An order that is done leaves a calm book: it took all that it crosses, or has nothing left.
-use Rattle.std.proofs.Common.{◌≡◌, ℕ, ◌<◌, ◌≤◌, Bool, true, false, cond, leb, ltb, not, ◌&&◌, ◌||◌, IsTrue, List, [], ◌∷◌, ◌++◌, map, filter, Option, Some, None, refl, sym, ap, subst, ◌∙◌, arith}
+use Rattle.std.proofs.Common.{◌≡◌, ℕ, Bool, true, false, leb, not, List, [], ◌∷◌, Option, Some, None, refl, ap}
 use Rattle.std.specs.List.{AllByRecursion, cons_option, filter_map, list_all, list_any}
 use Rattle.std.specs.Option.{is_some}
 use Rattle.std.proofs.lemmas.Bool.{and_from, and_parts, or_from, or_parts}
-use Rattle.mkt_base.specs.Book.{is_buy, limit_of}
-use Rattle.mkt_base.specs.Fills.{after_trades, less_traded}
-use Rattle.mkt_base.specs.declared.auction.Trade.{Trade}
+use Rattle.mkt_base.specs.Book.{limit_of}
 use Rattle.mkt_base.specs.declared.order.Order.{Order}
 use Rattle.mkt_base.specs.declared.units.Price.{Price}
 use Rattle.auction_law.specs.Attempt.{all_limited, crosses as limits_cross, is_calm, limits, side_limit}
-use Rattle.book_law.specs.BookView.{less}
-use Rattle.book_law.proofs.Pairs.{all-append, weaken}
 
 -- A list of bids against a list of asks, where there are any.
 module _ (h : Order → Option ℕ) where

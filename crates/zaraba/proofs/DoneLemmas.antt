@@ -1,5 +1,5 @@
 -- An order that is done with something left took all that it crosses; so a calm book stays calm.
-use Rattle.std.proofs.Common.{◌≡◌, ℕ, zero, suc, ◌+◌, ◌-◌, ◌<◌, ◌≤◌, min, Bool, true, false, cond, eqb, leb, ltb, not, ◌&&◌, ◌||◌, List, [], ◌∷◌, ◌++◌, length, map, filter, Option, Some, None, append-nil, refl, sym, ap, subst, ◌∙◌, arith}
+use Rattle.std.proofs.Common.{◌≡◌, ℕ, zero, suc, ◌+◌, ◌-◌, ◌<◌, ◌≤◌, min, Bool, true, false, cond, eqb, ltb, not, ◌&&◌, ◌||◌, List, [], ◌∷◌, ◌++◌, length, filter, Option, Some, None, append-nil, refl, sym, ap, subst, ◌∙◌, arith}
 use Rattle.std.specs.List.{All, AllByRecursion, sum_by}
 use Rattle.std.specs.Option.{is_some, option_map_or}
 use Rattle.std.proofs.lemmas.Bool.Decides.{nat_tests}
@@ -16,12 +16,12 @@ use Rattle.mkt_base.specs.declared.order.Spot.{Spot}
 use Rattle.mkt_base.specs.declared.order.Spot.TheVariants.{Market, At}
 use Rattle.mkt_base.specs.declared.output.Output.{Output}
 use Rattle.mkt_base.specs.declared.units.Price.{Price}
-use Rattle.auction_law.specs.Attempt.{crosses as limits_cross, is_calm, side_limit}
+use Rattle.auction_law.specs.Attempt.{crosses as limits_cross, is_calm}
 use Rattle.book_law.specs.BookView.{BookView, IsBookView, IsSpotBelow, orders}
 use Rattle.book_law.proofs.FrontLemmas.{in_priority-all, orders-below, orders-left}
 use Rattle.book_law.proofs.Pairs.{all-append, weaken}
 use Rattle.book_law.proofs.SideSums.{sum-priority}
-use Rattle.zaraba.specs.Arrival.{Arrival, Jump, arrival, arrival_over, book_after, crossed, crosses, crosses_at, cut_stop, ended_stop, is_beyond, is_gap, limit_price, opposite, rest_of, trade_with, way}
+use Rattle.zaraba.specs.Arrival.{Jump, arrival, arrival_over, book_after, crossed, crosses, crosses_at, cut_stop, ended_stop, is_gap, limit_price, opposite, rest_of, trade_with, way}
 use Rattle.zaraba.specs.Walk.{IsStopped, IsWalking, is_too_far, jump_to, with_left, with_trades}
 use Rattle.zaraba.specs.declared.stop.Stop.{Stop}
 use Rattle.zaraba.specs.declared.stop.Stop.TheVariants.{Done, Gap, Sequence}
@@ -92,9 +92,10 @@ module _ (grid : List Price) (range : ℕ → ℕ) (first : ℕ) where
       let own = own-trade o x q in
       subst (IsThrough o (x ∷ xs)) (sym (ap (λ a. a.trades) more)) (record {
         limit = others.limit;
-        filled =
-            (omega (arith, traded-cons x.place t next.trades, own, all),
-            weaken (λ y. y.left ≤ traded_at next.trades y.place) (λ y. y.left ≤ traded_at (t ∷ next.trades) y.place) (λ y h. omega (arith, traded-cons y.place t next.trades, h)) xs others.filled);
+        filled = (
+          omega (arith, traded-cons x.place t next.trades, own, all),
+          weaken (λ y. y.left ≤ traded_at next.trades y.place) (λ y. y.left ≤ traded_at (t ∷ next.trades) y.place) (λ y h. omega (arith, traded-cons y.place t next.trades, h)) xs others.filled,
+        );
       })
 
   through : (xs : List Order) → AllByRecursion (λ x. 0 < x.left) xs → (o : Order) (last : ℕ)
@@ -235,12 +236,12 @@ module _ (grid : List Price) where
       let a = arrival grid range os o last in
       let limited = kept-after a.trades (λ x. is_some (limit_of grid x.spot) ≡ true) (λ x. is_some (limit_of grid x.spot) ≡ true) (λ x h e. h) os (calm-limited grid os calm) in
       let apart = kept-after a.trades (λ x. AllByRecursion (Apart grid x) os) (λ x. AllByRecursion (Apart grid x) (after_trades a.trades os))
-          (λ x h e. kept-after a.trades (Apart grid x) (Apart grid x) (λ y k f. k) os h) os (calm-apart grid os calm) in
+      (λ x h e. kept-after a.trades (Apart grid x) (Apart grid x) (λ y k f. k) os h) os (calm-apart grid os calm) in
       calm-rest a.left o (after_trades a.trades os) limited apart (λ left.
-          let xs = in_priority (length grid) (opposite o.side) os in
-          let has = filter-left xs (in_priority-all (λ x. 0 < x.left) (opposite o.side) os some (length grid)) in
-          let all = through grid range last (crossed grid o os) has o last done left in
-          (all.limit, none-against grid o a.trades os below all.filled))
+      let xs = in_priority (length grid) (opposite o.side) os in
+      let has = filter-left xs (in_priority-all (λ x. 0 < x.left) (opposite o.side) os some (length grid)) in
+      let all = through grid range last (crossed grid o os) has o last done left in
+      (all.limit, none-against grid o a.trades os below all.filled))
     where
       filter-left : (xs : List Order) → AllByRecursion (λ x. 0 < x.left) xs → AllByRecursion (λ x. 0 < x.left) (filter (crosses grid o) xs)
       filter-left [] all = tt
@@ -256,9 +257,9 @@ pub calm-after : {W : Type 0} (took : W → List Output → W → Type 0) (grid 
     → orders new ≡ orders mid ++ rest_of o left → stop ≡ Done → is_calm grid (orders new) ≡ true
 calm-after took grid range last o old mid new left now from to stop stands size calm walking stopped joined done =
     let all : arrival grid range (orders old) o last ≡ record { trades = walking.done; left = left; last = now; stop = stop } =
-        walking.walked.rest ∙ ap (with_trades walking.done) stopped ∙ ap (λ ts. record { trades = ts; left = left; last = now; stop = stop }) (append-nil walking.done) in
+    walking.walked.rest ∙ ap (with_trades walking.done) stopped ∙ ap (λ ts. record { trades = ts; left = left; last = now; stop = stop }) (append-nil walking.done) in
     let below = subst (λ n. All (λ x. IsSpotBelow n x.spot) (orders old)) (sym size) (orders-below old stands) in
     let some = recursion_from_All (λ x. 0 < x.left) (orders old) (orders-left old stands) in
     let same : orders new ≡ book_after (arrival grid range (orders old) o last) (orders old) o =
-        joined ∙ ap (λ xs. xs ++ rest_of o left) walking.walked.book ∙ ap (λ a. book_after a (orders old) o) (sym all) in
+    joined ∙ ap (λ xs. xs ++ rest_of o left) walking.walked.book ∙ ap (λ a. book_after a (orders old) o) (sym all) in
     ap (is_calm grid) same ∙ done-calm grid range (orders old) o last below some calm (ap (λ a. a.stop) all ∙ done)

@@ -18,7 +18,7 @@ abbrev order : ℕ → Side → Spot → ℕ → Order
 order place side spot left =
     record { place = place; caller = record { 0 = 1 }; own = place; participant = record { 0 = 0 }; side = side; spot = spot; left = left }
 
--- seven prices from 20000 on, 400 apart, and a range of 400
+-- five prices from 20000 on, 400 apart
 abbrev grid : List Price
 grid = price 20000 ∷ price 20400 ∷ price 20800 ∷ price 21200 ∷ price 21600 ∷ []
 
@@ -36,7 +36,7 @@ sequence_after_two : arrival grid (λ p. 400) three_sells (order 4 Buy Market 30
 unfolding arrival_over from_front quantity in_priority
 sequence_after_two = refl
 
--- of two takers the one that asks for less is done
+-- an order for less than stands against it is done, and fills a part of the second
 done_with_a_part : arrival grid (λ p. 400) three_sells (order 4 Buy (At 2) 150) 20000
     ≡ record {
       trades = record { price = price 20400; qty = 100; buy = 4; sell = 1 } ∷ record { price = price 20800; qty = 50; buy = 4; sell = 2 } ∷ [];

@@ -1,7 +1,7 @@
 use Rattle.std.proofs.Common.{ap, subst, sym, ◌∙◌, length, not, arith}
 use Rattle.std.proofs.lemmas.List.Sums.{count_by-le-length, length-filter}
-use Rattle.book_law.specs.BookView.{BookView, Names, Slot, is_at, orders}
-use Rattle.book_law.proofs.Views.{names-reduced, names-without, orders-reduced, orders-without}
+use Rattle.book_law.specs.BookView.{BookView, Names, Slot, is_at, less, orders}
+use Rattle.book_law.proofs.Views.{names-less, names-reduced, names-without, orders-reduced, orders-without}
 use Rattle.order_book.proofs.taking.take.Goals as goal
 
 pub returns-then-by-order-clause-orders : goal.returns-then-by-order-clause-orders
@@ -25,3 +25,10 @@ returns-else-by-order-clause-orders c =
 pub returns-else-by-order-clause-others : goal.returns-else-by-order-clause-others
 returns-else-by-order-clause-others c k x other names =
     subst (λ b. Names b k x) (sym c.reduce.ensures) (names-reduced c.args.handle k x other c.args.by c.args.book.now names)
+
+pub returns-then-by-order-clause-own : goal.returns-then-by-order-clause-own
+returns-then-by-order-clause-own c some_left = absurd (omega (arith, c.if-by-order.true, some_left))
+
+pub returns-else-by-order-clause-own : goal.returns-else-by-order-clause-own
+returns-else-by-order-clause-own c some_left =
+    subst (λ b. Names b c.args.handle (less c.args.by c.args.order.now)) (sym c.reduce.ensures) (names-less c.args.handle c.args.by c.args.order.now c.args.book.now c.requires.names)
