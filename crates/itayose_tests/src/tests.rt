@@ -1,1 +1,2 @@
 mod auctions;
+mod shares;

@@ -1,8 +1,8 @@
 -- The first place that passes a test.
-use Rattle.std.proofs.Common.{◌≡◌, ℕ, ◌<◌, ◌≤◌, Bool, true, false, cond, ltb, List, Option, Some, None, length, slice_index, refl, sym, ◌∙◌, arith}
+use Rattle.std.proofs.Common.{◌≡◌, ℕ, ◌<◌, ◌≤◌, Bool, true, false, not, cond, ltb, List, Option, Some, None, length, slice_index, refl, sym, ◌∙◌, arith}
 use Rattle.std.specs.List.{All, position_or_len}
 use Rattle.std.proofs.lemmas.Bool.Decides.{nat_tests}
-use Rattle.std.proofs.lemmas.List.Sums.{fails_before_first, position_or_len_is}
+use Rattle.std.proofs.lemmas.List.Sums.{fails_before_first, position_or_len_is, prefix_len-le-length}
 use Rattle.memchr.specs.Find.{IsFirstByte}
 
 some-when : (b : Bool) (p at : ℕ) → cond b (Some p) None ≡ Some at → (b ≡ true) × (p ≡ at)
@@ -37,10 +37,14 @@ found-at test xs r at e f =
     let below : position_or_len test xs < length xs = grind (arith, nat_tests, s.0) in
     (s.1, omega (arith, s.1, below))
 
--- where none was found, none passes
+-- where none was found, the place is behind the last
 pub none-found : (test : ℕ → Bool) (xs : List ℕ) (r : Option ℕ) → r ≡ cond (ltb (position_or_len test xs) (length xs)) (Some (position_or_len test xs)) None → r ≡ None
-    → All (λ x. test x ≡ false) xs
+    → length xs ≡ position_or_len test xs
 none-found test xs r e f =
     let s = none-when (ltb (position_or_len test xs) (length xs)) (position_or_len test xs) (sym e ∙ f) in
     let above : length xs ≤ position_or_len test xs = grind (arith, nat_tests, s) in
-    λ k d h. fails_before_first test xs k d (omega (arith, above, h))
+    omega (arith, above, prefix_len-le-length (λ x. not (test x)) xs)
+
+-- where the place is behind the last, none passes
+pub none-passes : (test : ℕ → Bool) (xs : List ℕ) → length xs ≤ position_or_len test xs → All (λ x. test x ≡ false) xs
+none-passes test xs above = λ k d h. fails_before_first test xs k d (omega (arith, above, h))

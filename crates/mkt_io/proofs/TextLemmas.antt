@@ -1,5 +1,7 @@
--- A list that is tested in two parts, which may overlap.
-use Rattle.std.proofs.Common.{◌≡◌, ℕ, zero, suc, ◌≤◌, Bool, true, false, ◌&&◌, List, [], ◌∷◌, take, drop, refl, ap, ◌∙◌, arith}
+-- A list that is tested in parts, which may overlap.
+use Rattle.std.proofs.Common.{◌≡◌, ℕ, zero, suc, ◌+◌, ◌≤◌, Bool, true, false, ◌&&◌, List, [], ◌∷◌, take, drop, refl, sym, ap, ◌∙◌, arith}
+use Rattle.std.proofs.lemmas.List.Folds.{list_all-append}
+use Rattle.std.proofs.Math.Seq.{take-add}
 use Rattle.std.specs.List.{list_all}
 
 module _ (passes : ℕ → Bool) where
@@ -33,3 +35,16 @@ module _ (passes : ℕ → Bool) where
   all-overlapping (suc k) (suc m) [] h = refl
   all-overlapping (suc k) (suc m) (x ∷ xs) h =
       both (passes x) (list_all passes (take m xs)) (list_all passes (drop k xs)) ∙ ap (λ b. passes x && b) (all-overlapping k m xs (omega (arith, h)))
+
+  swapped : (a b c : Bool) → ((a && b) && c) ≡ ((a && c) && b)
+  swapped true true true = refl
+  swapped true true false = refl
+  swapped true false true = refl
+  swapped true false false = refl
+  swapped false b c = refl
+
+  -- a piece more in front of what is tested apart
+  pub all-more : (i n m : ℕ) (xs : List ℕ) (rest : Bool) → i + n ≡ m → ((list_all passes (take i xs) && rest) && list_all passes (take n (drop i xs))) ≡ (list_all passes (take m xs) && rest)
+  all-more i n m xs rest at =
+      swapped (list_all passes (take i xs)) rest (list_all passes (take n (drop i xs)))
+      ∙ ap (λ b. b && rest) (sym (list_all-append passes (take i xs) (take n (drop i xs))) ∙ ap (list_all passes) (sym (take-add i n xs) ∙ ap (λ k. take k xs) at))

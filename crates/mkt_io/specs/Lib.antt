@@ -1,3 +1,4 @@
+pub mod Ends
 pub mod Faults
 pub mod LineFault
 pub mod Lines
@@ -5,6 +6,7 @@ pub mod Memory
 pub mod Printed
 pub mod Read
 pub mod Shelf
+pub mod Sides
 pub mod Sink
 pub mod Time
 pub mod Words

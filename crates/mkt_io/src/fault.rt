@@ -60,6 +60,7 @@ impl LineFault {
 
 #[tactic(auto, unfolding(crate::specs::LineFault::checked_words))]
 /// The words of a line, after the tests of its number, its length and its bytes, in this order.
+#[inline(always)]
 pub fn checked_words(number: u32, line: &[u8]) -> Result<Words<'_>, LineFault>
     ensures { MatchResult result (λ words. checked_words number line.now ≡ Ok words) (λ fault.
         checked_words number line.now ≡ Err fault) }

@@ -5,6 +5,7 @@
 
 mod block;
 mod fault;
+mod lanes;
 mod lines;
 mod memory;
 mod printer;
@@ -16,6 +17,7 @@ mod time;
 mod words;
 
 pub use fault::{LINES_LIMIT, LineFault, TextFault, checked_words, too_long};
+pub use lanes::is_text;
 pub use lines::{LINE_LIMIT, Lines, Piece};
 pub use memory::{MemFault, MemShelf, MemSink};
 pub use printer::Printer;
@@ -23,4 +25,4 @@ pub use shelf::{ReadFault, Shelf, read_whole};
 pub use sink::{Failed, Sink, WriteFault, write_all};
 pub use system::{FileShelf, StdSink};
 pub use time::{printed_moments_read_back, time_word};
-pub use words::{Words, is_text, next_number, number_in, number_word, side_of};
+pub use words::{Words, next_number, number_in, number_word, side_of};

@@ -56,7 +56,7 @@ pub enum ReadFault {
 }
 
 // How many bytes are read at a time.
-const READ_BLOCK: usize = 16_384;
+const READ_BLOCK: usize = 65_536;
 
 /// The bytes of the file of this name, or the first `limit + 1` of them where it is longer.
 pub fn read_whole<F: Shelf>(

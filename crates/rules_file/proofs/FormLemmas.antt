@@ -72,8 +72,3 @@ pub find-later : (p : ℕ → Bool) (i n : ℕ) → i < n → p i ≡ false → 
 find-later p i n less fails =
     let more : n - i ≡ suc (n - (i + 1)) = omega arith in
     rw (more, fails) refl
-
-pub find-end : (p : ℕ → Bool) (i n : ℕ) → n ≤ i → find p (range_with_len i (n - i)) ≡ None
-find-end p i n end =
-    let none : n - i ≡ 0 = omega arith in
-    rw none refl

@@ -144,6 +144,11 @@ stands_earlier names i = list_any (bytes_eq (name_at names i)) (take i names)
 abbrev pub AreDistinct : List (List ℕ) → Type 0
 AreDistinct names = (k : ℕ) → k < length names → stands_earlier names k ≡ false
 
+-- at most 64 names, no two of them the same
+pub record AreKept (names : List (List ℕ)) : Type 0 where
+  pub few : length names ≤ 64
+  pub distinct : AreDistinct names
+
 -- 1 to so many names, no two of them the same
 pub record AreNames (limit : ℕ) (names : List (List ℕ)) : Type 0 where
   pub some : 1 ≤ length names

@@ -4,12 +4,14 @@
 mod checks;
 mod fault;
 mod form;
+mod guesses;
 mod issue;
 mod issues;
 mod keys;
 mod lists;
 mod names;
 mod rules;
+mod same;
 mod value;
 
 pub use fault::RulesFault;

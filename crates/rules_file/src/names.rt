@@ -1,5 +1,5 @@
 // Names by number.
-ghost use Rattle.std.specs.Prelude.{◌≡◌, ◌<◌, ◌≤◌, [], ◌∷◌, ◌++◌, false, length, map, option_map, position, slice_index_or, IfOk, IfSome};
+ghost use Rattle.std.specs.Prelude.{◌≡◌, ◌<◌, ◌≤◌, [], ◌∷◌, ◌++◌, false, length, position, slice_index_or, IfOk, IfSome, IsTrue};
 ghost use Rattle.std.specs.List.{list_any};
 ghost use Rattle.std.specs.Str.{bytes_eq};
 ghost use Rattle.toml.specs.View.{table_view};
@@ -8,7 +8,9 @@ ghost use Rattle.rules_file.specs.Keys.{AreDistinct, AreNames, checked, name_at,
 
 use crate::RulesFault;
 use crate::fault::twice;
+use crate::guesses::Guesses;
 use crate::keys::rows_at;
+use crate::same::is_same;
 use indexmap::IndexSet;
 use mkt_base::Name;
 use std::alloc::{AllocError, Global};
@@ -20,10 +22,11 @@ use toml::Table;
 pub(crate) struct Names {
     index: IndexSet<Vec<u8>>,
     texts: Vec<Name>,
+    guesses: Guesses,
 }
 
 impl Model for Names {
-    ghost use Rattle.std.specs.Prelude.{◌≡◌, ◌≤◌, List, ℕ, length, map};
+    ghost use Rattle.std.specs.Prelude.{List, ℕ};
 
     ghost Value = { List (List ℕ) };
 
@@ -42,6 +45,7 @@ impl Names {
         Names {
             index: IndexSet::new(alloc),
             texts: Vec::new(alloc),
+            guesses: Guesses::new(),
         }
     }
 
@@ -53,8 +57,30 @@ impl Names {
         self.texts.len() as u16
     }
 
-    // The number of a name.
+    // The number of a name. Where the guess is wrong, the index is asked.
+    #[inline(always)]
     pub(crate) fn number_of(&self, name: &[u8]) -> Option<u16>
+        ensures exact { result ≡ position (bytes_eq name.now) self.now }
+        ensures within { IfSome result (λ i. i < length self.now) }
+    {
+        let guess = self.guesses.of(name);
+        if self.is_at(guess, name) {
+            return Some(guess as u16);
+        }
+        self.place_of(name)
+    }
+
+    // Whether a name has this number.
+    #[inline(always)]
+    fn is_at(&self, i: usize, name: &[u8]) -> bool
+        ensures { IsTrue result → (i < length self.now) × (slice_index_or self.now i [] ≡ name.now) }
+    {
+        i < self.texts.len() && is_same(self.texts[i].as_str().as_bytes(), name)
+    }
+
+    // The number of a name, by the index.
+    #[inline(never)]
+    fn place_of(&self, name: &[u8]) -> Option<u16>
         ensures exact { result ≡ position (bytes_eq name.now) self.now }
         ensures within { IfSome result (λ i. i < length self.now) }
     {
@@ -88,12 +114,18 @@ impl Names {
         let Names {
             mut index,
             mut texts,
+            mut guesses,
         } = self;
         let key = Vec::from_slice(alloc, name.as_bytes())?;
         let text = String::from_str(alloc, name)?;
         index.insert(key)?;
+        guesses.note(name.as_bytes(), texts.len() as u8);
         texts.push(Name::new(text))?;
-        Ok(Names { index, texts })
+        Ok(Names {
+            index,
+            texts,
+            guesses,
+        })
     }
 }
 

@@ -102,6 +102,7 @@ impl Rules {
     }
 
     /// The same for a word of a script.
+    #[inline(always)]
     pub fn issue_of_word(&self, word: &[u8]) -> Option<u16>
         requires { IsRules self.now }
         ensures value { result ≡ position (bytes_eq word.now) (codes_in self.now) }
@@ -119,6 +120,7 @@ impl Rules {
     }
 
     /// The same for a word of a script.
+    #[inline(always)]
     pub fn participant_of_word(&self, word: &[u8]) -> Option<u16>
         ensures value { result ≡ position (bytes_eq word.now) (participants_in self.now) }
         ensures within { IfSome result (λ i. i < length (participants_in self.now)) }
@@ -135,6 +137,7 @@ impl Rules {
     }
 
     /// The same for a word of a script.
+    #[inline(always)]
     pub fn gateway_of_word(&self, word: &[u8]) -> Option<u16>
         ensures value { result ≡ position (bytes_eq word.now) (gateways_in self.now) }
         ensures within { IfSome result (λ i. i < length (gateways_in self.now)) }

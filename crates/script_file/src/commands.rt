@@ -14,6 +14,7 @@ pub(crate) enum Command {
     Clock,
 }
 
+#[inline(always)]
 fn command_of(word: &[u8]) -> Result<Command, LineFault>
     ensures { result ≡ command_of word.now }
 {
@@ -26,6 +27,7 @@ fn command_of(word: &[u8]) -> Result<Command, LineFault>
 
 // The command that the next word names.
 #[tactic(auto, unfolding(crate::specs::Commands::next_command))]
+#[inline(always)]
 pub(crate) fn next_command(words: &mut Words<'_>) -> Result<Command, LineFault>
     ensures { MatchResult result (λ command. next_command words.old ≡ Ok (command, words.new)) (λ fault. next_command
         words.old ≡ Err fault) }
@@ -36,6 +38,7 @@ pub(crate) fn next_command(words: &mut Words<'_>) -> Result<Command, LineFault>
 
 // After `order`: P buy K QTY, or P sell K QTY.
 #[tactic(auto, unfolding(crate::specs::Commands::order_words))]
+#[inline(always)]
 fn order_words(rules: &Rules, words: &mut Words<'_>) -> Result<Act, LineFault>
     ensures { result ≡ order_words rules.now words.old }
 {
@@ -54,6 +57,7 @@ fn order_words(rules: &Rules, words: &mut Words<'_>) -> Result<Act, LineFault>
 
 // After `clock`: TIME.
 #[tactic(auto, unfolding(crate::specs::Commands::clock_words))]
+#[inline(always)]
 fn clock_words(words: &mut Words<'_>) -> Result<Act, LineFault>
     ensures { result ≡ clock_words words.old }
 {
@@ -63,6 +67,7 @@ fn clock_words(words: &mut Words<'_>) -> Result<Act, LineFault>
 }
 
 // What the words after a command say.
+#[inline(always)]
 pub(crate) fn act_words(
     rules: &Rules,
     issues: Issues,

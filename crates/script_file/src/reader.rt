@@ -73,6 +73,7 @@ impl Reader {
     }
 
     // Reads a line: the script has what it says, or its first fault is told.
+    #[inline(always)]
     pub(crate) fn read_line(
         &mut self,
         rules: &Rules,
@@ -90,6 +91,7 @@ impl Reader {
     }
 
     // Adds what a line says. The events are counted before anything is added.
+    #[inline(always)]
     fn add(&mut self, rules: &Rules, number: u32, said: &Said) -> Result<(), ScriptFault>
         requires rules { IsRules rules.now }
         requires said { IsFor rules.now said.now }
@@ -110,6 +112,7 @@ impl Reader {
     }
 
     // Adds a line for each of `count` issues from the first on.
+    #[inline(always)]
     fn add_run(
         &mut self,
         number: u32,
@@ -137,6 +140,7 @@ impl Reader {
         self.stages - 1
     }
 
+    #[inline(always)]
     fn push(&mut self, line: GatewayScriptLine) -> Result<(), AllocError>
         requires { event_count self.old.lines + events_of line.line.act 1 ≤ 500000 }
         ensures { OnOk result (self.new ≡ record self.old { lines = self.old.lines ++ line ∷ [] }) }
@@ -149,6 +153,7 @@ impl Reader {
 }
 
 // Adds an item at the end. (The prover does not follow a push of an item that holds a moment.)
+#[inline(always)]
 fn push<T: Copy + Drop>(items: &mut Vec<T>, item: T) -> Result<(), AllocError>
     ensures { MatchResult result (λ _. items.new.items ≡ items.old.items ++ item ∷ []) (λ _. items.new.items ≡
         items.old.items) }
@@ -158,6 +163,7 @@ fn push<T: Copy + Drop>(items: &mut Vec<T>, item: T) -> Result<(), AllocError>
 }
 
 // A gateway's line for one issue.
+#[inline(always)]
 fn line_for(stage: u32, number: u32, gateway: Caller, act: &Act, issue: u16) -> GatewayScriptLine
     ensures { result ≡ record { gateway = gateway; line = record { line = number; stage = stage; issue = issue; act = act.now } } }
 {
@@ -173,6 +179,7 @@ fn line_for(stage: u32, number: u32, gateway: Caller, act: &Act, issue: u16) -> 
 }
 
 // How many events a line makes for so many issues.
+#[inline(always)]
 fn events_of(act: &Act, count: u16) -> u32
     ensures { result ≡ events_of act.now count }
 {
@@ -183,6 +190,7 @@ fn events_of(act: &Act, count: u16) -> u32
 }
 
 // The numbers of the issues that a line is for: the first, and how many there are.
+#[inline(always)]
 fn numbers_of(rules: &Rules, issues: Issues) -> (u16, u16)
     requires rules { IsRules rules.now }
     requires known { AreIssues rules.now issues }
@@ -196,6 +204,7 @@ fn numbers_of(rules: &Rules, issues: Issues) -> (u16, u16)
 }
 
 // Whether a line is the one word `barrier`, by its first word and those after it.
+#[inline(always)]
 fn is_barrier(first: &[u8], words: &Words<'_>) -> bool
     ensures { result ≡ is_barrier (first.now ∷ words.now) }
 {
@@ -204,6 +213,7 @@ fn is_barrier(first: &[u8], words: &Words<'_>) -> bool
 
 // What a line with these words says: its words are tested from left to right.
 #[tactic(auto, unfolding(crate::specs::Script::said_by, crate::specs::Script::gateway_line))]
+#[inline(always)]
 fn said_by(rules: &Rules, words: &mut Words<'_>) -> Result<Said, LineFault>
     requires { IsRules rules.now }
     ensures exact { result ≡ said_by rules.now words.old }
@@ -224,6 +234,7 @@ fn said_by(rules: &Rules, words: &mut Words<'_>) -> Result<Said, LineFault>
 
 // What a line says, or its first fault.
 #[tactic(auto, unfolding(crate::specs::Script::words_said))]
+#[inline(always)]
 fn read_words(rules: &Rules, number: u32, text: &[u8]) -> Result<Said, LineFault>
     requires { IsRules rules.now }
     ensures exact { result ≡ words_said rules.now number text.now }

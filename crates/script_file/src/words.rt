@@ -18,6 +18,7 @@ pub(crate) enum Issues {
 
 // The caller that a gateway is.
 #[tactic(auto, unfolding(crate::specs::Words::gateway_of))]
+#[inline(always)]
 pub(crate) fn gateway_of(rules: &Rules, word: &[u8]) -> Result<Caller, LineFault>
     requires { IsRules rules.now }
     ensures { result ≡ gateway_of rules.now word.now }
@@ -27,6 +28,7 @@ pub(crate) fn gateway_of(rules: &Rules, word: &[u8]) -> Result<Caller, LineFault
 }
 
 #[tactic(auto, unfolding(crate::specs::Words::issues_of))]
+#[inline(always)]
 fn issues_of(rules: &Rules, word: &[u8]) -> Result<Issues, LineFault>
     requires { IsRules rules.now }
     ensures exact { result ≡ issues_of rules.now word.now }
@@ -41,6 +43,7 @@ fn issues_of(rules: &Rules, word: &[u8]) -> Result<Issues, LineFault>
 
 // The issues that the next word names.
 #[tactic(auto, unfolding(crate::specs::Words::next_issues))]
+#[inline(always)]
 pub(crate) fn next_issues(rules: &Rules, words: &mut Words<'_>) -> Result<Issues, LineFault>
     requires { IsRules rules.now }
     ensures exact { MatchResult result (λ issues. next_issues rules.now words.old ≡ Ok (issues, words.new)) (λ fault.
@@ -53,6 +56,7 @@ pub(crate) fn next_issues(rules: &Rules, words: &mut Words<'_>) -> Result<Issues
 
 // The participant that the next word names.
 #[tactic(auto, unfolding(crate::specs::Words::next_participant))]
+#[inline(always)]
 pub(crate) fn next_participant(
     rules: &Rules,
     words: &mut Words<'_>,
@@ -69,6 +73,7 @@ pub(crate) fn next_participant(
 
 // The side that the next word names.
 #[tactic(auto, unfolding(crate::specs::Words::next_side))]
+#[inline(always)]
 pub(crate) fn next_side(words: &mut Words<'_>) -> Result<Side, LineFault>
     ensures { MatchResult result (λ side. next_side words.old ≡ Ok (side, words.new)) (λ fault. next_side words.old ≡
         Err fault) }
@@ -78,6 +83,7 @@ pub(crate) fn next_side(words: &mut Words<'_>) -> Result<Side, LineFault>
 }
 
 #[tactic(auto, unfolding(crate::specs::Words::kind_of))]
+#[inline(always)]
 fn kind_of(word: &[u8]) -> Result<Kind, LineFault>
     ensures { result ≡ kind_of word.now }
 {
@@ -90,6 +96,7 @@ fn kind_of(word: &[u8]) -> Result<Kind, LineFault>
 
 // The kind that the next word says: `market`, or a limit price.
 #[tactic(auto, unfolding(crate::specs::Words::next_kind))]
+#[inline(always)]
 pub(crate) fn next_kind(words: &mut Words<'_>) -> Result<Kind, LineFault>
     ensures { MatchResult result (λ kind. next_kind words.old ≡ Ok (kind, words.new)) (λ fault. next_kind words.old ≡
         Err fault) }
@@ -100,6 +107,7 @@ pub(crate) fn next_kind(words: &mut Words<'_>) -> Result<Kind, LineFault>
 
 // The moment that the next word says.
 #[tactic(auto, unfolding(crate::specs::Words::next_moment))]
+#[inline(always)]
 pub(crate) fn next_moment(words: &mut Words<'_>) -> Result<Moment, LineFault>
     ensures { MatchResult result (λ moment. next_moment words.old ≡ Ok (moment, words.new)) (λ fault. next_moment
         words.old ≡ Err fault) }

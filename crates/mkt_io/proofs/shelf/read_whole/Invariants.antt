@@ -8,7 +8,7 @@ invariant-loop-block g l =
     let shelf = g.F.Shelf in
     record {
       within : length l.bytes.items ≤ l.limit + 1;
-      same_block : length l.block ≡ 16384;
+      same_block : length l.block ≡ 65536;
       same_names : shelf.names l.shelf ≡ shelf.names l.fn.shelf;
       same_files : shelf.files l.shelf ≡ shelf.files l.fn.shelf;
       count : shelf.faults l.fn.shelf ≤ shelf.faults l.shelf;

@@ -1,14 +1,11 @@
-use Rattle.std.proofs.Common.{position, ap, ◌∙◌}
-use Rattle.std.specs.Str.{bytes_eq}
-use Rattle.rules_file.proofs.FormLemmas.{position-map}
+use Rattle.std.proofs.Common.{◌≡◌, ◌<◌, length, get_or, [], subst, sym, rules}
+use Rattle.rules_file.specs.Keys.{AreKept}
+use Rattle.rules_file.proofs.NameLemmas.{position-at}
 use Rattle.rules_file.proofs.names.Names.number_of.Goals as goal
 
-pub returns-in-Some-clause-exact : goal.returns-in-Some-clause-exact
-returns-in-Some-clause-exact c =
-    let test = bytes_eq c.args.name.now in
-    rw (← c.self.view_is) (c.in-Some.ensures.index ∙ position-map (λ key. key.items) test c.self.inside.index.keys ∙ ap (position test) c.self.invariant.same)
-
-pub returns-in-None-clause-exact : goal.returns-in-None-clause-exact
-returns-in-None-clause-exact c =
-    let test = bytes_eq c.args.name.now in
-    rw (← c.self.view_is) (c.in-None.ensures.index ∙ position-map (λ key. key.items) test c.self.inside.index.keys ∙ ap (position test) c.self.invariant.same)
+pub returns-then-is_at-clause-exact : goal.returns-then-is_at-clause-exact
+returns-then-is_at-clause-exact c =
+    let names = c.args.self.now in
+    let here : (c.of-guess.result < length names) × (get_or names c.of-guess.result [] ≡ c.args.name.now) = search rules in
+    let kept = subst AreKept c.self.view_is c.self.invariant.kept in
+    sym (position-at names c.args.name.now c.of-guess.result kept.distinct here.0 here.1)

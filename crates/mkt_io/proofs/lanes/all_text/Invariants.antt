@@ -1,7 +1,7 @@
 use Rattle.std.proofs.Common.{◌≡◌, take}
 use Rattle.std.specs.List.{list_all}
 use Rattle.mkt_io.specs.Words.{is_text_byte}
-use Rattle.mkt_io.proofs.words.all_text.Given as goal
+use Rattle.mkt_io.proofs.lanes.all_text.Given as goal
 
 -- whether the bytes so far are text
 abbrev pub invariant-loop-byte : goal.invariant-loop-byte

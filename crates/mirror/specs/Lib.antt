@@ -1,0 +1,4 @@
+pub mod Calls
+pub mod Members
+pub mod Mirrored
+pub mod Replicas
