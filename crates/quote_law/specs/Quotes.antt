@@ -87,7 +87,7 @@ abbrev pub IsToward : Side → ℕ → ℕ → Type 0
 IsToward Buy from to = from ≤ to
 IsToward Sell from to = to ≤ from
 
--- the second price is at most so far from the first to the side's way
+-- the second price is not farther than that from the first to the side's way; to the other way it may be anywhere
 abbrev pub IsNear : Side → ℕ → ℕ → ℕ → Type 0
 IsNear Buy far from to = to ≤ from + far
 IsNear Sell far from to = from ≤ to + far
