@@ -28,7 +28,7 @@ use Rattle.zaraba.specs.declared.stop.Stop.TheVariants.{Done, Gap, Sequence}
 use Rattle.zaraba.proofs.CalmLemmas.{Apart, calm-apart, calm-from, calm-limited}
 use Rattle.zaraba.proofs.WalkLemmas.{walk-cut, walk-done, walk-more, walk-none}
 
-traded-cons : (place : ℕ) (t : Trade) (ts : List Trade) → traded_at (t ∷ ts) place ≡ cond (eqb place t.buy || eqb place t.sell) t.qty 0 + traded_at ts place
+pub traded-cons : (place : ℕ) (t : Trade) (ts : List Trade) → traded_at (t ∷ ts) place ≡ cond (eqb place t.buy || eqb place t.sell) t.qty 0 + traded_at ts place
 unfolding traded_at
 traded-cons place t ts = sum_by-cons (λ u. cond (eqb place u.buy || eqb place u.sell) u.qty 0) t ts
 
@@ -108,7 +108,7 @@ module _ (grid : List Price) (range : ℕ → ℕ) (first : ℕ) where
       through-step (is_too_far grid range first last x) x xs o last refl some.0 (λ p now d l. through xs some.1 p now d l) done left
 
 -- what holds of orders and of what trades leave of them holds after the trades
-kept-after : (ts : List Trade) (P Q : Order → Type 0) → ((x : Order) → P x → ltb 0 (less_traded ts x).left ≡ true → Q (less_traded ts x)) → (os : List Order) → AllByRecursion P os → AllByRecursion Q (after_trades ts os)
+pub kept-after : (ts : List Trade) (P Q : Order → Type 0) → ((x : Order) → P x → ltb 0 (less_traded ts x).left ≡ true → Q (less_traded ts x)) → (os : List Order) → AllByRecursion P os → AllByRecursion Q (after_trades ts os)
 unfolding after_trades
 kept-after ts P Q stays [] all = tt
 kept-after ts P Q stays (o ∷ os) all = step (ltb 0 (less_traded ts o).left) refl (kept-after ts P Q stays os all.1)
@@ -118,7 +118,7 @@ kept-after ts P Q stays (o ∷ os) all = step (ltb 0 (less_traded ts o).left) re
     step false e rest = rest
 
 -- a sum of noughts, and the parts of a sum that is nought
-noughts : (f : Order → ℕ) (os : List Order) → AllByRecursion (λ o. f o ≡ 0) os → sum_by f os ≡ 0
+pub noughts : (f : Order → ℕ) (os : List Order) → AllByRecursion (λ o. f o ≡ 0) os → sum_by f os ≡ 0
 noughts f [] all = refl
 noughts f (o ∷ os) all = let rest = noughts f os all.1 in let here : f o ≡ 0 = all.0 in omega (arith, sum_by-cons f o os, rest, here)
 

@@ -77,7 +77,7 @@ module _ (grid : List Price) (range : ℕ → ℕ) (first : ℕ) where
   either-price true t u p e f = e
   either-price false t u p e f = f
 
-  trade-price : (o x : Order) (q : ℕ) → (trade_with grid o x q).price.0 ≡ limit_price grid x
+  pub trade-price : (o x : Order) (q : ℕ) → (trade_with grid o x q).price.0 ≡ limit_price grid x
   trade-price o x q =
       let p = limit_price grid x in
       either-price (is_buy o.side) (record { price = record { 0 = p }; qty = q; buy = o.place; sell = x.place }) (record { price = record { 0 = p }; qty = q; buy = x.place; sell = o.place }) p refl refl

@@ -1,2 +1,3 @@
 pub mod Arrival
+pub mod Laws
 pub mod Walk

@@ -2,8 +2,13 @@
 #![tactic(auto)]
 
 mod arriving;
+mod law;
 mod next;
 mod stop;
 
 pub use arriving::{Arrived, incoming};
+pub use law::{
+    bought_is_sold, last_is_near, none_fills_more, sequence_is_beyond, stopped_has_left,
+    trades_stand,
+};
 pub use stop::Stop;

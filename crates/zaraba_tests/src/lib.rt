@@ -1,0 +1,5 @@
+//! The tests of continuous trading. A crate with tests of its own is proved twice in each gate, so they stand here, above it.
+#![tactic(auto)]
+
+#[cfg(test)]
+mod tests;
