@@ -1,6 +1,6 @@
 -- Worked examples: the definitions compute to what a reader of the format would say.
 use Rattle.std.specs.Prelude.{⊤, ◌≡◌, ℕ, List, [], ◌∷◌, ◌++◌, flat_map, Result, Ok, Err, refl, codes}
-use Rattle.mkt_base.specs.declared.event.Event.TheVariants.{Order, Clock}
+use Rattle.mkt_base.specs.declared.event.Event.TheVariants.{Order, Change, Cancel, Clock}
 use Rattle.mkt_base.specs.declared.order.Kind.TheVariants.{Market, Limit}
 use Rattle.mkt_base.specs.declared.order.Side.TheVariants.{Buy, Sell}
 use Rattle.mkt_base.specs.declared.script.Act.{Act}
@@ -10,9 +10,10 @@ use Rattle.mkt_io.specs.Time.{digit_of, millis_of, part_at, time_of, two_at}
 use Rattle.mkt_io.specs.Words.{number_of, words}
 use Rattle.rules_file.specs.declared.issue.IssueRules.{IssueRules}
 use Rattle.rules_file.specs.declared.rules.Rules.{Rules}
-use Rattle.script_file.specs.Commands.{clock_words, next_command, order_words}
+use Rattle.script_file.specs.Commands.{cancel_words, change_words, clock_words, next_command, order_words}
+use Rattle.script_file.specs.Own.{is_order_of}
 use Rattle.script_file.specs.Script.{gateway_line, line_said, read_lines, said_by, script_of, with_lines, words_said}
-use Rattle.script_file.specs.Words.{gateway_of, issues_of, kind_of, next_issues, next_kind, next_moment, next_participant, next_side}
+use Rattle.script_file.specs.Words.{gateway_of, issues_of, kind_of, next_issues, next_kind, next_moment, next_own, next_participant, next_side}
 use Rattle.script_file.specs.declared.fault.ScriptFault.{ScriptFault}
 use Rattle.script_file.specs.declared.fault.ScriptFault.TheVariants.{At}
 use Rattle.script_file.specs.declared.script.GatewayScriptLine.{GatewayScriptLine}
@@ -20,7 +21,7 @@ use Rattle.script_file.specs.declared.script.Script.{Script}
 
 -- what the examples unfold
 unfoldable script_on_literals : ⊤
-unfolding checked_words words next_number number_in number_of digit_of millis_of part_at time_of two_at clock_words next_command order_words gateway_line line_said read_lines said_by with_lines words_said gateway_of issues_of kind_of next_issues next_kind next_moment next_participant next_side
+unfolding checked_words words next_number number_in number_of digit_of millis_of part_at time_of two_at clock_words cancel_words change_words next_command order_words is_order_of gateway_line line_said read_lines said_by with_lines words_said gateway_of issues_of kind_of next_issues next_kind next_moment next_own next_participant next_side
 script_on_literals = tt
 
 abbrev issue : IssueRules
@@ -107,3 +108,32 @@ extra_word = refl
 no_text : said ((103 ∷ 57 ∷ 32 ∷ 127 ∷ []) ∷ []) ≡ Err (At 1 9)
 unfolding script_on_literals
 no_text = refl
+
+-- an order's own number counts all events of its gateway in its issue: here the moment is 0 and the order 1
+changed : said (codes "g1 * clock 08:00:00" ∷ codes "g1 AAAA order p1 buy 7 5" ∷ codes "g1 AAAA change p2 1 market 3" ∷ codes "g1 AAAA cancel p1 1" ∷ [])
+    ≡ Ok (record {
+      lines = made 1 1 0 (Do (Clock 28800000)) ∷ made 1 1 1 (Do (Clock 28800000)) ∷ made 1 2 0 (Do (Order (record { 0 = 0 }) Buy (Limit (record { 0 = 7 })) (record { 0 = 5 })))
+          ∷ made 1 3 0 (Do (Change (record { 0 = 1 }) 1 Market (record { 0 = 3 }))) ∷ made 1 4 0 (Do (Cancel (record { 0 = 0 }) 1)) ∷ [];
+      stages = 1;
+    })
+unfolding script_on_literals
+changed = refl
+
+no_order_yet : said (codes "g1 AAAA cancel p1 0" ∷ codes "g1 AAAA order p1 buy 7 5" ∷ []) ≡ Err (At 1 6)
+unfolding script_on_literals
+no_order_yet = refl
+
+-- the event of this number is a moment
+own_of_a_moment : said (codes "g1 AAAA clock 08:00:00" ∷ codes "g1 AAAA order p1 buy 7 5" ∷ codes "g1 AAAA cancel p1 0" ∷ []) ≡ Err (At 3 6)
+unfolding script_on_literals
+own_of_a_moment = refl
+
+-- the order is another gateway's
+own_of_another : said (codes "g1 AAAA order p1 buy 7 5" ∷ codes "barrier AAAA cancel p1 0" ∷ []) ≡ Err (At 2 6)
+unfolding script_on_literals
+own_of_another = refl
+
+-- the own number comes before the kind
+own_first : said (codes "g1 AAAA change p1 0 x x" ∷ []) ≡ Err (At 1 6)
+unfolding script_on_literals
+own_first = refl

@@ -1,2 +1,5 @@
+mod CommandLemmas
 mod Examples
+mod OrderLemmas
 mod ReaderLemmas
+mod ScriptLemmas

@@ -1,5 +1,5 @@
 -- What holds of a script while it is read.
-use Rattle.std.proofs.Common.{◌≡◌, ℕ, ◌+◌, ◌-◌, ◌<◌, ◌≤◌, List, [], ◌∷◌, ◌++◌, length, length-append, append_assoc, append-nil, map, Ok, Err, refl, sym, ap, ◌∙◌, arith}
+use Rattle.std.proofs.Common.{◌≡◌, ℕ, ◌+◌, ◌-◌, ◌<◌, ◌≤◌, Bool, List, [], ◌∷◌, ◌++◌, length, length-append, append_assoc, append-nil, map, Ok, Err, refl, sym, ap, subst, ◌∙◌, arith}
 use Rattle.std.specs.List.{range_with_len}
 use Rattle.std.proofs.lemmas.Bool.Decides.{nat_tests}
 use Rattle.std.proofs.lemmas.List.Elements.{filter-append}
@@ -12,6 +12,8 @@ use Rattle.mkt_io.specs.declared.fault.LineFault.{LineFault}
 use Rattle.mkt_io.specs.declared.fault.LineFault.TheVariants.{TooMany}
 use Rattle.rules_file.specs.declared.rules.Rules.{Rules}
 use Rattle.script_file.specs.Faults.{Fails, at_line}
+use Rattle.script_file.proofs.OrderLemmas.{AreRowsOf-push}
+use Rattle.script_file.specs.Orders.{AreRowsOf, noted}
 use Rattle.script_file.specs.Reader.{IsKept, events_of, with_run}
 use Rattle.script_file.specs.Script.{event_count, is_event, line_for, line_said, numbers_of, read_lines, script_of, with_lines, with_said, words_said}
 use Rattle.script_file.specs.declared.fault.ScriptFault.{ScriptFault}
@@ -36,11 +38,24 @@ event_count-push made line = event_count-append made (line ∷ []) ∙ ap (λ n.
     one Show = refl
 
 -- one line more
-pub IsKept-push : (made after : List GatewayScriptLine) (line : GatewayScriptLine) (stages events more : ℕ) → IsKept made stages events → after ≡ made ++ line ∷ [] → more ≡ events_of line.line.act 1
-    → event_count made + events_of line.line.act 1 ≤ 500000 → IsKept after stages (events + more)
-IsKept-push made after line stages events more kept added one room =
+pub IsKept-push : (made after : List GatewayScriptLine) (line : GatewayScriptLine) (rows next : List (List Bool)) (stages events more : ℕ) → IsKept made rows stages events → after ≡ made ++ line ∷ []
+    → next ≡ noted rows line.gateway line.line.issue line.line.act → more ≡ events_of line.line.act 1 → event_count made + events_of line.line.act 1 ≤ 500000 → line.gateway.0 ≤ 16 → line.line.issue < 64
+    → IsKept after next stages (events + more)
+IsKept-push made after line rows next stages events more kept added note one room low in_row =
     let count : event_count after ≡ event_count made + events_of line.line.act 1 = ap event_count added ∙ event_count-push made line in
-    record { open_stage = kept.open_stage; count = omega (arith, kept.count, count, one); few = omega (arith, kept.count, one, room) }
+    let orders : AreRowsOf next (made ++ line ∷ []) = subst (λ (rs : List (List Bool)). AreRowsOf rs (made ++ line ∷ [])) (sym note) (AreRowsOf-push rows made line kept.orders low in_row) in
+    record {
+      open_stage = kept.open_stage;
+      count = omega (arith, kept.count, count, one);
+      few = omega (arith, kept.count, one, room);
+      orders = subst (λ (lines : List GatewayScriptLine). AreRowsOf next lines) (sym added) orders;
+    }
+
+-- nothing is added
+pub IsKept-same : (made after : List GatewayScriptLine) (rows next : List (List Bool)) (stages events : ℕ) → IsKept made rows stages events → after ≡ made → next ≡ rows → IsKept after next stages events
+IsKept-same made after rows next stages events kept added note =
+    subst (λ (lines : List GatewayScriptLine). IsKept lines next stages events) (sym added)
+    (subst (λ (rs : List (List Bool)). IsKept made rs stages events) (sym note) kept)
 
 module _ (script : Script) (number : ℕ) (gateway : Caller) where
   -- a line for each of so many issues makes as many events, or none
@@ -111,11 +126,11 @@ module _ (rules : Rules) (script : Script) (number : ℕ) (gateway : Caller) (is
 
 -- what a line's words say, and then what the script has by it
 module _ (rules : Rules) (script : Script) (number : ℕ) (line : List ℕ) where
-  pub line_said-ok : (said : Said) → words_said rules number line ≡ Ok said → line_said rules script number line ≡ at_line number (with_said rules script number said)
+  pub line_said-ok : (said : Said) → words_said rules script.lines number line ≡ Ok said → line_said rules script number line ≡ at_line number (with_said rules script number said)
   unfolding line_said
   line_said-ok said e = rw e refl
 
-  pub line_said-err : (fault : LineFault) → words_said rules number line ≡ Err fault → line_said rules script number line ≡ Err (At number (fault_number fault))
+  pub line_said-err : (fault : LineFault) → words_said rules script.lines number line ≡ Err fault → line_said rules script number line ≡ Err (At number (fault_number fault))
   unfolding line_said
   line_said-err fault e = rw e refl
 

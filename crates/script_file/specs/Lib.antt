@@ -1,5 +1,7 @@
 pub mod Commands
 pub mod Faults
+pub mod Orders
+pub mod Own
 pub mod Reader
 pub mod Script
 pub mod Words

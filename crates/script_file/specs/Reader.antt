@@ -1,9 +1,10 @@
 -- What the reader of a script keeps beside the script.
-use Rattle.std.specs.Prelude.{◌≡◌, ℕ, ◌≤◌, List, ◌++◌, map}
+use Rattle.std.specs.Prelude.{◌≡◌, ℕ, ◌≤◌, Bool, List, ◌++◌, map}
 use Rattle.std.specs.List.{range_with_len}
 use Rattle.mkt_base.specs.declared.script.Act.{Act}
 use Rattle.mkt_base.specs.declared.script.Act.TheVariants.{Do, Show}
 use Rattle.mkt_base.specs.declared.units.Caller.{Caller}
+use Rattle.script_file.specs.Orders.{AreRowsOf}
 use Rattle.script_file.specs.Script.{event_count, line_for}
 use Rattle.script_file.specs.declared.script.GatewayScriptLine.{GatewayScriptLine}
 use Rattle.script_file.specs.declared.script.Script.{Script}
@@ -17,8 +18,9 @@ events_of Show count = 0
 abbrev pub with_run : Script → ℕ → Caller → Act → ℕ → ℕ → Script
 with_run script number gateway act first count = record script { lines = script.lines ++ map (line_for script number gateway act) (range_with_len first count) }
 
--- a stage is open, and the events are those that the lines make
-pub record IsKept (made : List GatewayScriptLine) (stages events : ℕ) : Type 0 where
+-- a stage is open, the events are those that the lines make, and the rows tell the orders among them
+pub record IsKept (made : List GatewayScriptLine) (rows : List (List Bool)) (stages events : ℕ) : Type 0 where
   pub open_stage : 1 ≤ stages
   pub count : events ≡ event_count made
   pub few : events ≤ 500000
+  pub orders : AreRowsOf rows made

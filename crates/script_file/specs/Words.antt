@@ -1,5 +1,5 @@
 -- The words of a gateway's line, from left to right.
-use Rattle.std.specs.Prelude.{ℕ, ◌+◌, ◌<◌, List, length, position, Result, Ok, if◌then◌else◌, codes}
+use Rattle.std.specs.Prelude.{ℕ, ◌+◌, ◌<◌, ◌≤◌, List, length, position, Result, Ok, Err, if◌then◌else◌, codes}
 use Rattle.std.specs.Option.{ok_or}
 use Rattle.std.specs.Str.{bytes_eq}
 use Rattle.mkt_base.specs.declared.units.Caller.{Caller}
@@ -7,12 +7,14 @@ use Rattle.mkt_base.specs.declared.units.Participant.{Participant}
 use Rattle.mkt_base.specs.declared.order.Kind.{Kind}
 use Rattle.mkt_base.specs.declared.order.Kind.TheVariants.{Market, Limit}
 use Rattle.mkt_base.specs.declared.order.Side.{Side}
-use Rattle.mkt_io.specs.LineFault.{◌>>=◌, number_in, side_of, wanted}
+use Rattle.mkt_io.specs.LineFault.{◌>>=◌, next_number, number_in, side_of, wanted}
 use Rattle.mkt_io.specs.Time.{time_of}
 use Rattle.mkt_io.specs.declared.fault.LineFault.{LineFault}
-use Rattle.mkt_io.specs.declared.fault.LineFault.TheVariants.{Number, Issue, Gateway, Participant as NoParticipant}
+use Rattle.mkt_io.specs.declared.fault.LineFault.TheVariants.{Number, Issue, Gateway, Own, Participant as NoParticipant}
 use Rattle.rules_file.specs.Rules.{codes_in, gateways_in, issues_in, participants_in}
 use Rattle.rules_file.specs.declared.rules.Rules.{Rules}
+use Rattle.script_file.specs.Own.{is_order_of}
+use Rattle.script_file.specs.declared.script.GatewayScriptLine.{GatewayScriptLine}
 use Rattle.script_file.specs.declared.words.Issues.{Issues}
 use Rattle.script_file.specs.declared.words.Issues.TheVariants.{One, Each}
 
@@ -66,6 +68,17 @@ next_moment words = do
   word ← wanted words
   moment ← ok_or (time_of word.0) Number
   Ok (moment, word.1)
+
+-- the own number that the next word says, which is that of an earlier order of the gateway in the issue, and the words after
+-- it
+unfoldable pub next_own : List GatewayScriptLine → Caller → ℕ → List (List ℕ) → Result (ℕ × List (List ℕ)) LineFault
+next_own made gateway issue words = do
+  own ← next_number 0 4294967295 words
+  if is_order_of made gateway issue own.0 then Ok own else Err Own
+
+-- what holds of the gateway of a line: it is a gateway of the rules, counted from 1
+abbrev pub IsGateway : Rules → Caller → Type 0
+IsGateway rules gateway = (1 ≤ gateway.0) × (gateway.0 ≤ length (gateways_in rules))
 
 -- what holds of the issues of a line: they are issues of the rules
 abbrev pub AreIssues : Rules → Issues → Type 0

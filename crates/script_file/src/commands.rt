@@ -1,9 +1,12 @@
 // The commands of a gateway, each with the words that follow it.
-ghost use Rattle.std.specs.Prelude.{◌≡◌, MatchResult};
-ghost use Rattle.script_file.specs.Commands.{act_words, clock_words, command_of, next_command, order_words};
+ghost use Rattle.std.specs.Prelude.{◌≡◌, ◌<◌, ◌≤◌, IfOk, MatchResult};
+ghost use Rattle.rules_file.specs.Rules.{IsRules};
+ghost use Rattle.script_file.specs.Commands.{IsActOf, act_words, cancel_words, change_words, clock_words, command_of, next_command, order_words};
+ghost use Rattle.script_file.specs.Words.{AreIssues};
 
-use crate::words::{Issues, next_kind, next_moment, next_participant, next_side};
-use mkt_base::{Act, Event, Qty};
+use crate::reader::Reader;
+use crate::words::{Issues, next_kind, next_moment, next_own, next_participant, next_side};
+use mkt_base::{Act, Caller, Event, Qty};
 use mkt_io::{LineFault, Words, next_number};
 use rules_file::Rules;
 
@@ -11,6 +14,8 @@ use rules_file::Rules;
 #[derive(Clone, Copy)]
 pub(crate) enum Command {
     Order,
+    Change,
+    Cancel,
     Clock,
 }
 
@@ -20,6 +25,8 @@ fn command_of(word: &[u8]) -> Result<Command, LineFault>
 {
     match word {
         b"order" => Ok(Command::Order),
+        b"change" => Ok(Command::Change),
+        b"cancel" => Ok(Command::Cancel),
         b"clock" => Ok(Command::Clock),
         _ => Err(LineFault::Word),
     }
@@ -40,7 +47,8 @@ pub(crate) fn next_command(words: &mut Words<'_>) -> Result<Command, LineFault>
 #[tactic(auto, unfolding(crate::specs::Commands::order_words))]
 #[inline(always)]
 fn order_words(rules: &Rules, words: &mut Words<'_>) -> Result<Act, LineFault>
-    ensures { result ≡ order_words rules.now words.old }
+    ensures exact { result ≡ order_words rules.now words.old }
+    ensures sound { IfOk result (IsActOf rules.now) }
 {
     let participant = next_participant(rules, words)?;
     let side = next_side(words)?;
@@ -55,30 +63,95 @@ fn order_words(rules: &Rules, words: &mut Words<'_>) -> Result<Act, LineFault>
     }))
 }
 
+// After `change`: P OWN K QTY.
+#[tactic(auto, unfolding(crate::specs::Commands::change_words))]
+#[inline(always)]
+fn change_words(
+    rules: &Rules,
+    reader: &Reader,
+    gateway: Caller,
+    issue: u16,
+    words: &mut Words<'_>,
+) -> Result<Act, LineFault>
+    requires gateway { gateway.0 ≤ 16 }
+    requires issue { issue < 64 }
+    ensures exact { result ≡ change_words rules.now reader.now.lines gateway issue words.old }
+    ensures sound { IfOk result (IsActOf rules.now) }
+{
+    let participant = next_participant(rules, words)?;
+    let target = next_own(reader, gateway, issue, words)?;
+    let kind = next_kind(words)?;
+    let quantity = next_number(words, 0, u32::MAX)?;
+    words.end()?;
+    Ok(Act::Do(Event::Change {
+        participant,
+        target,
+        kind,
+        qty: Qty(quantity),
+    }))
+}
+
+// After `cancel`: P OWN.
+#[tactic(auto, unfolding(crate::specs::Commands::cancel_words))]
+#[inline(always)]
+fn cancel_words(
+    rules: &Rules,
+    reader: &Reader,
+    gateway: Caller,
+    issue: u16,
+    words: &mut Words<'_>,
+) -> Result<Act, LineFault>
+    requires gateway { gateway.0 ≤ 16 }
+    requires issue { issue < 64 }
+    ensures exact { result ≡ cancel_words rules.now reader.now.lines gateway issue words.old }
+    ensures sound { IfOk result (IsActOf rules.now) }
+{
+    let participant = next_participant(rules, words)?;
+    let target = next_own(reader, gateway, issue, words)?;
+    words.end()?;
+    Ok(Act::Do(Event::Cancel {
+        participant,
+        target,
+    }))
+}
+
 // After `clock`: TIME.
 #[tactic(auto, unfolding(crate::specs::Commands::clock_words))]
 #[inline(always)]
-fn clock_words(words: &mut Words<'_>) -> Result<Act, LineFault>
-    ensures { result ≡ clock_words words.old }
+fn clock_words(rules: &Rules, words: &mut Words<'_>) -> Result<Act, LineFault>
+    ensures exact { result ≡ clock_words words.old }
+    ensures sound { IfOk result (IsActOf rules.now) }
 {
     let at = next_moment(words)?;
     words.end()?;
     Ok(Act::Do(Event::Clock { at }))
 }
 
-// What the words after a command say.
+// What the words after a command of a gateway say.
 #[inline(always)]
 pub(crate) fn act_words(
     rules: &Rules,
+    reader: &Reader,
+    gateway: Caller,
     issues: Issues,
     command: Command,
     words: &mut Words<'_>,
 ) -> Result<Act, LineFault>
-    ensures { result ≡ act_words rules.now issues command words.old }
+    requires rules { IsRules rules.now }
+    requires gateway { gateway.0 ≤ 16 }
+    requires issues { AreIssues rules.now issues }
+    ensures exact { result ≡ act_words rules.now reader.now.lines gateway issues command words.old }
+    ensures sound { IfOk result (IsActOf rules.now) }
 {
     match (command, issues) {
         (Command::Order, Issues::One(_)) => order_words(rules, words),
-        (Command::Order, Issues::Each) => Err(LineFault::Issue),
-        (Command::Clock, Issues::One(_) | Issues::Each) => clock_words(words),
+        (Command::Change, Issues::One(issue)) => {
+            change_words(rules, reader, gateway, issue, words)
+        }
+        (Command::Cancel, Issues::One(issue)) => {
+            cancel_words(rules, reader, gateway, issue, words)
+        }
+        (Command::Order | Command::Change | Command::Cancel, Issues::Each) => Err(LineFault::Issue),
+        (Command::Clock, Issues::One(_) | Issues::Each) => clock_words(rules, words),
     }
 }

@@ -3,6 +3,7 @@
 
 mod commands;
 mod fault;
+mod orders;
 mod reader;
 mod script;
 mod words;

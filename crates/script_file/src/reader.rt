@@ -1,14 +1,16 @@
 // The script so far, while its lines are read.
-ghost use Rattle.std.specs.Prelude.{◌≡◌, ◌+◌, ◌-◌, ◌<◌, ◌≤◌, [], ◌∷◌, ◌++◌, Ok, Err, IfOk, MatchResult, OnOk};
+ghost use Rattle.std.specs.Prelude.{◌≡◌, ◌+◌, ◌-◌, ◌<◌, ◌≤◌, [], ◌∷◌, ◌++◌, Ok, Err, IfOk, MatchResult, OnOk, vec_capacity, vec_len};
 ghost use Rattle.std.specs.List.{range_with_len};
 ghost use Rattle.rules_file.specs.Rules.{IsRules};
 ghost use Rattle.script_file.specs.Faults.{Fails, at_line};
+ghost use Rattle.script_file.specs.Own.{is_order_of};
 ghost use Rattle.script_file.specs.Reader.{events_of, with_run};
-ghost use Rattle.script_file.specs.Script.{IsFor, event_count, is_barrier, line_said, numbers_of, said_by, with_said, words_said};
+ghost use Rattle.script_file.specs.Script.{IsFor, IsScript, event_count, is_barrier, line_said, numbers_of, said_by, with_said, words_said};
 ghost use Rattle.script_file.specs.Words.{AreIssues};
 
 use crate::commands::{act_words, next_command};
 use crate::fault::at_line;
+use crate::orders::OrderLog;
 use crate::words::{Issues, gateway_of, next_issues};
 use crate::{GatewayScriptLine, Script, ScriptFault};
 use mkt_base::{Act, Caller, Rows, ScriptLine};
@@ -36,29 +38,44 @@ pub(crate) struct Reader {
     stages: u32,
     // How many of the lines make an event.
     events: u32,
+    // Which of the events are orders, by own number.
+    orders: OrderLog,
 }
 
 impl Model for Reader {
     ghost use Rattle.script_file.specs.declared.script.Script.{Script};
+    ghost use Rattle.script_file.specs.Orders.{rows_of};
     ghost use Rattle.script_file.specs.Reader.{IsKept};
 
     ghost Value = { Script };
 
     ghost view = { λ r. record { lines = r.lines.items; stages = r.stages } };
 
-    ghost invariant = { λ r. IsKept r.lines.items r.stages r.events };
+    ghost invariant = { λ r. IsKept r.lines.items (rows_of r.orders) r.stages r.events };
 }
 
 impl Reader {
     // The script before its first line.
-    pub(crate) fn new(alloc: Global) -> Reader
-        ensures { result ≡ record { lines = []; stages = 1 } }
+    pub(crate) fn make(alloc: Global) -> Result<Reader, AllocError>
+        ensures { IfOk result (λ reader. reader ≡ record { lines = []; stages = 1 }) }
     {
-        Reader {
+        let orders = OrderLog::make(alloc)?;
+        Ok(Reader {
             lines: Vec::new(alloc),
             stages: 1,
             events: 0,
-        }
+            orders,
+        })
+    }
+
+    // Whether the gateway's event of this own number in the issue is an order.
+    #[inline(always)]
+    pub(crate) fn is_order_of(&self, gateway: Caller, issue: u16, own: u32) -> bool
+        requires gateway { gateway.0 ≤ 16 }
+        requires issue { issue < 64 }
+        ensures { result ≡ is_order_of self.now.lines gateway issue own }
+    {
+        self.orders.is_order(gateway, issue, own)
     }
 
     // The script as it stands.
@@ -81,10 +98,11 @@ impl Reader {
         text: &[u8],
     ) -> Result<(), ScriptFault>
         requires { IsRules rules.now }
-        ensures { MatchResult result (λ _. line_said rules.now self.old number text.now ≡ Ok self.new) (λ fault.
+        ensures exact { MatchResult result (λ _. line_said rules.now self.old number text.now ≡ Ok self.new) (λ fault.
             Fails fault (line_said rules.now self.old number text.now)) }
+        ensures sound { OnOk result (IsScript rules.now self.old → IsScript rules.now self.new) }
     {
-        match read_words(rules, number, text) {
+        match self.read_words(rules, number, text) {
             Ok(said) => self.add(rules, number, &said),
             Err(fault) => Err(at_line(number, fault)),
         }
@@ -121,6 +139,7 @@ impl Reader {
         first: u16,
         count: u16,
     ) -> Result<(), AllocError>
+        requires gateway { gateway.0 ≤ 16 }
         requires issues { first + count ≤ 64 }
         requires room { event_count self.old.lines + events_of act.now count ≤ 500000 }
         ensures { OnOk result (self.new ≡ with_run self.old number gateway act.now first count) }
@@ -128,7 +147,7 @@ impl Reader {
         let stage = self.open_stage();
         for issue in first..first + count {
             let line = line_for(stage, number, gateway, act, issue);
-            self.push(line)?;
+            self.push(&line)?;
         }
         Ok(())
     }
@@ -140,26 +159,76 @@ impl Reader {
         self.stages - 1
     }
 
+    // Where there is no memory nothing is added.
     #[inline(always)]
-    fn push(&mut self, line: GatewayScriptLine) -> Result<(), AllocError>
-        requires { event_count self.old.lines + events_of line.line.act 1 ≤ 500000 }
-        ensures { OnOk result (self.new ≡ record self.old { lines = self.old.lines ++ line ∷ [] }) }
+    fn push(&mut self, line: &GatewayScriptLine) -> Result<(), AllocError>
+        requires room { event_count self.old.lines + events_of line.now.line.act 1 ≤ 500000 }
+        requires gateway { line.now.gateway.0 ≤ 16 }
+        requires issue { line.now.line.issue < 64 }
+        ensures { OnOk result (self.new ≡ record self.old { lines = self.old.lines ++ line.now ∷ [] }) }
     {
         let events = events_of(&line.line.act, 1);
-        push(&mut self.lines, line)?;
+        // (the line and its event stand together, so there is room for the line first)
+        make_room(&mut self.lines)?;
+        self.orders
+            .note(line.gateway, line.line.issue, &line.line.act)?;
+        push(&mut self.lines, line);
         self.events += events;
         Ok(())
     }
+
+    // What a line with these words says: its words are tested from left to right.
+    #[tactic(auto, unfolding(crate::specs::Script::said_by, crate::specs::Script::gateway_line))]
+    #[inline(always)]
+    fn said_by(&self, rules: &Rules, words: &mut Words<'_>) -> Result<Said, LineFault>
+        requires { IsRules rules.now }
+        ensures exact { result ≡ said_by rules.now self.now.lines words.old }
+        ensures known { IfOk result (IsFor rules.now) }
+    {
+        let Some(first) = words.first() else {
+            return Ok(Said::Nothing);
+        };
+        if is_barrier(first, words) {
+            return Err(LineFault::Word);
+        }
+        let gateway = gateway_of(rules, first)?;
+        let issues = next_issues(rules, words)?;
+        let command = next_command(words)?;
+        let act = act_words(rules, self, gateway, issues, command, words)?;
+        Ok(Said::Line(gateway, issues, act))
+    }
+
+    // What a line says, or its first fault.
+    #[tactic(auto, unfolding(crate::specs::Script::words_said))]
+    #[inline(always)]
+    fn read_words(&self, rules: &Rules, number: u32, text: &[u8]) -> Result<Said, LineFault>
+        requires { IsRules rules.now }
+        ensures exact { result ≡ words_said rules.now self.now.lines number text.now }
+        ensures known { IfOk result (IsFor rules.now) }
+    {
+        match checked_words(number, text) {
+            Ok(mut words) => self.said_by(rules, &mut words),
+            Err(fault) => Err(fault),
+        }
+    }
+}
+
+// Sees to it that there is room for an item more.
+#[inline(always)]
+fn make_room<T: Copy + Drop>(items: &mut Vec<T>) -> Result<(), AllocError>
+    ensures same { items.new.items ≡ items.old.items }
+    ensures room { OnOk result (vec_len items.new < vec_capacity items.new) }
+{
+    items.reserve(1)
 }
 
 // Adds an item at the end. (The prover does not follow a push of an item that holds a moment.)
 #[inline(always)]
-fn push<T: Copy + Drop>(items: &mut Vec<T>, item: T) -> Result<(), AllocError>
-    ensures { MatchResult result (λ _. items.new.items ≡ items.old.items ++ item ∷ []) (λ _. items.new.items ≡
-        items.old.items) }
+fn push<T: Copy + Drop>(items: &mut Vec<T>, item: &T)
+    requires { vec_len items.old < vec_capacity items.old }
+    ensures { items.new.items ≡ items.old.items ++ item.now ∷ [] }
 {
-    items.push(item)?;
-    Ok(())
+    items.push_reserved(*item);
 }
 
 // A gateway's line for one issue.
@@ -209,39 +278,4 @@ fn is_barrier(first: &[u8], words: &Words<'_>) -> bool
     ensures { result ≡ is_barrier (first.now ∷ words.now) }
 {
     first == b"barrier".as_slice() && words.at_end()
-}
-
-// What a line with these words says: its words are tested from left to right.
-#[tactic(auto, unfolding(crate::specs::Script::said_by, crate::specs::Script::gateway_line))]
-#[inline(always)]
-fn said_by(rules: &Rules, words: &mut Words<'_>) -> Result<Said, LineFault>
-    requires { IsRules rules.now }
-    ensures exact { result ≡ said_by rules.now words.old }
-    ensures known { IfOk result (IsFor rules.now) }
-{
-    let Some(first) = words.first() else {
-        return Ok(Said::Nothing);
-    };
-    if is_barrier(first, words) {
-        return Err(LineFault::Word);
-    }
-    let gateway = gateway_of(rules, first)?;
-    let issues = next_issues(rules, words)?;
-    let command = next_command(words)?;
-    let act = act_words(rules, issues, command, words)?;
-    Ok(Said::Line(gateway, issues, act))
-}
-
-// What a line says, or its first fault.
-#[tactic(auto, unfolding(crate::specs::Script::words_said))]
-#[inline(always)]
-fn read_words(rules: &Rules, number: u32, text: &[u8]) -> Result<Said, LineFault>
-    requires { IsRules rules.now }
-    ensures exact { result ≡ words_said rules.now number text.now }
-    ensures known { IfOk result (IsFor rules.now) }
-{
-    match checked_words(number, text) {
-        Ok(mut words) => said_by(rules, &mut words),
-        Err(fault) => Err(fault),
-    }
 }

@@ -1,8 +1,8 @@
 // A script, and how one is read.
-ghost use Rattle.std.specs.Prelude.{◌≡◌, ◌<◌, ◌^◌, length};
+ghost use Rattle.std.specs.Prelude.{◌≡◌, ◌<◌, ◌^◌, length, IfOk};
 ghost use Rattle.rules_file.specs.Rules.{IsRules};
 ghost use Rattle.script_file.specs.Faults.{Gives};
-ghost use Rattle.script_file.specs.Script.{script_of};
+ghost use Rattle.script_file.specs.Script.{IsScript, script_of};
 
 use crate::ScriptFault;
 use crate::fault::at_line;
@@ -31,14 +31,18 @@ pub struct Script {
 }
 
 /// Reads a script of fewer than 2^32 bytes under these rules: what it says, or its first fault with the number of its line.
-/// `Memory` comes only where there is no memory. The time is in proportion to the bytes and to what is made of them.
+/// `Memory` comes only where there is no memory. The time is in proportion to the bytes and to what is made of them; while it
+/// reads, a byte for each event is kept beside the lines.
 pub fn read_script(alloc: Global, bytes: &[u8], rules: &Rules) -> Result<Script, ScriptFault>
     requires rules { IsRules rules.now }
     requires size { length bytes.now < 2 ^ 32 }
-    ensures { Gives result (script_of rules.now bytes.now) }
+    ensures exact { Gives result (script_of rules.now bytes.now) }
+    ensures sound { IfOk result (IsScript rules.now) }
 {
     let mut lines = Lines::new(bytes);
-    let mut reader = Reader::new(alloc);
+    let Ok(mut reader) = Reader::make(alloc) else {
+        return Err(ScriptFault::Memory);
+    };
     'each_line: loop {
         match lines.next() {
             Piece::End => break 'each_line,

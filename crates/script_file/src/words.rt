@@ -1,10 +1,11 @@
 // The words of a gateway's line, one after another.
 ghost use Rattle.std.specs.Prelude.{◌≡◌, ◌<◌, ◌≤◌, length, IfOk, IfSome, MatchResult};
-ghost use Rattle.rules_file.specs.Rules.{IsRules, gateways_in, issues_in};
-ghost use Rattle.script_file.specs.Words.{AreIssues, gateway_of, issues_of, kind_of, next_issues, next_kind, next_moment, next_participant, next_side};
+ghost use Rattle.rules_file.specs.Rules.{IsRules, gateways_in, issues_in, participants_in};
+ghost use Rattle.script_file.specs.Words.{AreIssues, IsGateway, gateway_of, issues_of, kind_of, next_issues, next_kind, next_moment, next_own, next_participant, next_side};
 
+use crate::reader::Reader;
 use mkt_base::{Caller, Kind, Moment, Participant, Price, Side};
-use mkt_io::{LineFault, Words, number_in, side_of, time_word};
+use mkt_io::{LineFault, Words, next_number, number_in, side_of, time_word};
 use rules_file::Rules;
 
 // The issues that a line is for.
@@ -21,7 +22,8 @@ pub(crate) enum Issues {
 #[inline(always)]
 pub(crate) fn gateway_of(rules: &Rules, word: &[u8]) -> Result<Caller, LineFault>
     requires { IsRules rules.now }
-    ensures { result ≡ gateway_of rules.now word.now }
+    ensures exact { result ≡ gateway_of rules.now word.now }
+    ensures known { IfOk result (IsGateway rules.now) }
 {
     let number = rules.gateway_of_word(word).ok_or(LineFault::Gateway)?;
     Ok(Caller(number + 1))
@@ -61,8 +63,9 @@ pub(crate) fn next_participant(
     rules: &Rules,
     words: &mut Words<'_>,
 ) -> Result<Participant, LineFault>
-    ensures { MatchResult result (λ participant. next_participant rules.now words.old ≡ Ok (participant, words.new)) (λ
-        fault. next_participant rules.now words.old ≡ Err fault) }
+    ensures exact { MatchResult result (λ participant. next_participant rules.now words.old ≡ Ok (participant, words.new))
+        (λ fault. next_participant rules.now words.old ≡ Err fault) }
+    ensures known { IfOk result (λ participant. participant.0 < length (participants_in rules.now)) }
 {
     let word = words.wanted()?;
     let number = rules
@@ -105,12 +108,35 @@ pub(crate) fn next_kind(words: &mut Words<'_>) -> Result<Kind, LineFault>
     kind_of(word)
 }
 
+// The own number that the next word says, which is that of an earlier order of the gateway in the issue.
+#[tactic(auto, unfolding(crate::specs::Words::next_own))]
+#[inline(always)]
+pub(crate) fn next_own(
+    reader: &Reader,
+    gateway: Caller,
+    issue: u16,
+    words: &mut Words<'_>,
+) -> Result<u32, LineFault>
+    requires gateway { gateway.0 ≤ 16 }
+    requires issue { issue < 64 }
+    ensures { MatchResult result (λ own. next_own reader.now.lines gateway issue words.old ≡ Ok (own, words.new)) (λ
+        fault. next_own reader.now.lines gateway issue words.old ≡ Err fault) }
+{
+    let own = next_number(words, 0, u32::MAX)?;
+    if reader.is_order_of(gateway, issue, own) {
+        Ok(own)
+    } else {
+        Err(LineFault::Own)
+    }
+}
+
 // The moment that the next word says.
 #[tactic(auto, unfolding(crate::specs::Words::next_moment))]
 #[inline(always)]
 pub(crate) fn next_moment(words: &mut Words<'_>) -> Result<Moment, LineFault>
-    ensures { MatchResult result (λ moment. next_moment words.old ≡ Ok (moment, words.new)) (λ fault. next_moment
+    ensures exact { MatchResult result (λ moment. next_moment words.old ≡ Ok (moment, words.new)) (λ fault. next_moment
         words.old ≡ Err fault) }
+    ensures within_the_day { IfOk result (λ moment. moment < 86400000) }
 {
     let word = words.wanted()?;
     time_word(word).ok_or(LineFault::Number)

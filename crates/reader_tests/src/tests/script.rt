@@ -2,8 +2,9 @@
 ghost use Rattle.std.specs.Prelude.{IfOk};
 ghost use Rattle.rules_file.specs.Rules.{IsRules};
 
+use mkt_base::{Act, Caller, Event, Kind, Participant, Price, Qty, Side};
 use rules_file::{Rules, read_rules};
-use script_file::{Script, ScriptFault, read_script};
+use script_file::{GatewayScriptLine, Script, ScriptFault, read_script};
 use std::alloc::{AllocError, Global};
 use std::test::Fail;
 
@@ -80,10 +81,13 @@ const FAULTS: &str = "
 # the command
 1 1: g1 AAAA foo p1 buy 20010 500^
 1 1: g1 AAAA orders p1 buy 20010 500^
-1 1: g1 AAAA cancel p1 0^
+1 6: g1 AAAA cancel p1 0^
+1 1: g1 AAAA cancels p1 0^
 1 1: g1 * foo^
 1 3: g1 * order^
 1 3: g1 * order p9 hold x^
+1 3: g1 * change^
+1 3: g1 * cancel p9 x x x^
 1 1: g1 AAAA order^
 1 1: g1 * clock^
 # the words of an order
@@ -99,6 +103,36 @@ const FAULTS: &str = "
 1 2: g1 AAAA order p1 sell market -5^
 1 2: g1 AAAA order p1 sell market 4294967296^
 1 1: g1 AAAA order p1 sell market 500 open^
+# an order line that ends too early
+1 5: g1 AAAA order p
+1 1: g1 AAAA order p1
+1 1: g1 AAAA order p1\t
+1 1: g1 AAAA order p1 b
+1 1: g1 AAAA order p1 bu
+1 1: g1 AAAA order p1 buy
+1 1: g1 AAAA order p1 buy\t
+1 1: g1 AAAA order p1 buy 2
+1 1: g1 AAAA order p1 buy 20
+1 1: g1 AAAA order p1 buy 200
+1 1: g1 AAAA order p1 buy 2001
+1 1: g1 AAAA order p1 buy 20010
+1 1: g1 AAAA order p1 buy 20010\t
+read 1: g1 AAAA order p1 buy 20010 5
+# the words of a change and a cancellation
+1 1: g1 AAAA change
+1 5: g1 AAAA change p9 x x x x
+1 1: g1 AAAA change p1
+1 2: g1 AAAA change p1 x
+1 2: g1 AAAA cancel p1 00
+1 2: g1 AAAA cancel p1 4294967296
+1 6: g1 AAAA cancel p1 4294967295
+1 6: g1 AAAA change p1 0 x x x
+2 1: g1 AAAA order p1 buy 1 1^g1 AAAA change p1 0
+2 2: g1 AAAA order p1 buy 1 1^g1 AAAA change p1 0 x x
+2 1: g1 AAAA order p1 buy 1 1^g1 AAAA change p1 0 market
+2 2: g1 AAAA order p1 buy 1 1^g1 AAAA change p1 0 1 x x
+2 1: g1 AAAA order p1 buy 1 1^g1 AAAA change p1 0 1 1 1
+2 1: g1 AAAA order p1 buy 1 1^g1 AAAA cancel p1 0 0
 # a moment
 1 2: g1 * clock 24:00:00^
 1 2: g1 * clock 8:00:00^
@@ -122,6 +156,28 @@ const FAULTS: &str = "
 3 4: g1 * clock 08:00:00^g1 * clock 08:00:00^g9
 ";
 
+// Own numbers, with two gateways, in the same form.
+const OWN: &str = "
+read 3: g1 AAAA order p1 buy 1 1^g1 AAAA change p2 0 market 0^g1 AAAA cancel p3 0
+read 3: g1 AAAA order p1 buy 1 1^g1 AAAA cancel p1 0^g1 AAAA cancel p1 0
+read 4: g1 AAAA order p1 buy 1 1^g1 BBBB order p1 buy 1 1^g1 BBBB cancel p1 0^g1 AAAA cancel p1 0
+# all events of the gateway in the issue are counted
+2 6: g1 AAAA clock 08:00:00^g1 AAAA cancel p1 0
+read 3: g1 AAAA clock 08:00:00^g1 AAAA order p1 buy 1 1^g1 AAAA cancel p1 1
+3 6: g1 AAAA order p1 buy 1 1^g1 AAAA cancel p1 0^g1 AAAA cancel p1 1
+4 6: g1 AAAA order p1 buy 1 1^g1 AAAA change p1 0 1 1^g1 AAAA order p1 buy 1 1^g1 AAAA cancel p1 1
+read 4: g1 AAAA order p1 buy 1 1^g1 AAAA change p1 0 1 1^g1 AAAA order p1 buy 1 1^g1 AAAA cancel p1 2
+# a line for all issues is an event in each
+read 6: g1 * clock 08:00:00^barrier * clock 08:00:00^g1 BBBB order p1 buy 1 1^\tg1 BBBB cancel p1 1
+read 4: barrier * clock 08:00:00^g1 BBBB order p1 buy 1 1^g1 BBBB cancel p1 0
+3 6: g1 * clock 08:00:00^g1 BBBB order p1 buy 1 1^g1 BBBB cancel p1 0
+# another gateway, another issue, a later line
+2 6: g1 AAAA order p1 buy 1 1^barrier AAAA cancel p1 0
+2 6: g1 AAAA order p1 buy 1 1^g1 BBBB cancel p1 0
+1 6: g1 AAAA cancel p1 0^g1 AAAA order p1 buy 1 1
+2 6: g1 AAAA order p1 buy 1 1^g1 AAAA cancel p1 1^g1 AAAA order p1 buy 1 1
+";
+
 // What the script of a case reads as, behind the case.
 fn told_of_case(alloc: Global, rules: &Rules, case: &str) -> Result<String, Fail>
     requires { IsRules rules.now }
@@ -138,11 +194,11 @@ fn told_of_case(alloc: Global, rules: &Rules, case: &str) -> Result<String, Fail
 }
 
 // The cases that read as something else than is wanted.
-fn wrong_cases(alloc: Global, rules: &Rules) -> Result<String, Fail>
+fn wrong_cases(alloc: Global, rules: &Rules, cases: &str) -> Result<String, Fail>
     requires { IsRules rules.now }
 {
     let mut wrong = String::new(alloc);
-    for case in FAULTS.lines() {
+    for case in cases.lines() {
         if case.is_empty() || case.starts_with("#") {
             continue;
         }
@@ -154,12 +210,24 @@ fn wrong_cases(alloc: Global, rules: &Rules) -> Result<String, Fail>
 // (Functions that own rules are few and short, since each of their ends lets all parts of the rules go.)
 fn wrong_faults(alloc: Global) -> Result<String, Fail> {
     let rules = rules(alloc, "gateways = [\"g1\"]\n")?;
-    wrong_cases(alloc, &rules)
+    wrong_cases(alloc, &rules, FAULTS)
+}
+
+fn wrong_own(alloc: Global) -> Result<String, Fail> {
+    let rules = two_gateways(alloc)?;
+    wrong_cases(alloc, &rules, OWN)
 }
 
 #[test]
 fn faults(rt: HostRuntime) -> Result<(), Fail> {
     let wrong = wrong_faults(rt.alloc())?;
+    assert_eq!(rt; wrong.as_str(), "");
+    Ok(())
+}
+
+#[test]
+fn own_numbers(rt: HostRuntime) -> Result<(), Fail> {
+    let wrong = wrong_own(rt.alloc())?;
     assert_eq!(rt; wrong.as_str(), "");
     Ok(())
 }
@@ -234,7 +302,7 @@ fn lines_text(alloc: Global, script: &Script) -> Result<String, AllocError> {
 }
 
 const WHOLE: &str =
-    "g1 * clock 08:00:00\n# an order\n\tbarrier  BBBB order p3 buy market 0 \ng1 AAAA order p1 sell 4294967295 4294967295\r\ng1 BBBB clock 23:59:59.999";
+    "g1 * clock 08:00:00\n# an order\n\tbarrier  BBBB order p3 buy market 0 \ng1 AAAA order p1 sell 4294967295 4294967295\r\ng1 BBBB clock 23:59:59.999\ng1 AAAA change p2 1 market 7\ng1 AAAA change p2 1 9 4294967295\ng1 AAAA cancel p3 1";
 
 const WHOLE_LINES: &str = "\
 1 ScriptLine { line: 1, stage: 0, issue: 0, act: Do(Clock { at: Moment { ms: 28800000 } }) }
@@ -242,6 +310,9 @@ const WHOLE_LINES: &str = "\
 2 ScriptLine { line: 3, stage: 0, issue: 1, act: Do(Order { participant: Participant(2), side: Buy, kind: Market, qty: Qty(0) }) }
 1 ScriptLine { line: 4, stage: 0, issue: 0, act: Do(Order { participant: Participant(0), side: Sell, kind: Limit(Price(4294967295)), qty: Qty(4294967295) }) }
 1 ScriptLine { line: 5, stage: 0, issue: 1, act: Do(Clock { at: Moment { ms: 86399999 } }) }
+1 ScriptLine { line: 6, stage: 0, issue: 0, act: Do(Change { participant: Participant(1), target: 1, kind: Market, qty: Qty(7) }) }
+1 ScriptLine { line: 7, stage: 0, issue: 0, act: Do(Change { participant: Participant(1), target: 1, kind: Limit(Price(9)), qty: Qty(4294967295) }) }
+1 ScriptLine { line: 8, stage: 0, issue: 0, act: Do(Cancel { participant: Participant(2), target: 1 }) }
 1
 ";
 
@@ -263,5 +334,68 @@ fn text_of(alloc: Global, rules: &Rules) -> Result<String, Fail>
 fn a_script_is_read_whole(rt: HostRuntime) -> Result<(), Fail> {
     let text = whole_text(rt.alloc())?;
     assert_eq!(rt; text.as_str(), WHOLE_LINES);
+    Ok(())
+}
+
+// The pieces of an order line of 30 bytes.
+const PIECES: [&str; 8] = [
+    "g1", " AAAA", " order", " p1", " buy", " 20010", " 500", "\n",
+];
+
+// Adds the order line with so many blanks more before one of its pieces.
+fn add_padded(
+    alloc: Global,
+    text: &mut Vec<u8>,
+    wide: usize,
+    blanks: u32,
+) -> Result<(), AllocError> {
+    for (at, piece) in PIECES.iter().enumerate() {
+        if at == wide {
+            text.extend_from_slice(&repeated(alloc, b" ", blanks)?)?;
+        }
+        text.extend_from_slice(piece.as_bytes())?;
+    }
+    Ok(())
+}
+
+// The order line with 0 to 34 blanks more before each of its pieces in turn: lines of 30 to 64 bytes.
+fn padded_lines(alloc: Global) -> Result<Vec<u8>, AllocError> {
+    let mut text = Vec::new(alloc);
+    for i in 0..280u32 {
+        add_padded(alloc, &mut text, (i / 35) as usize, i % 35)?;
+    }
+    Ok(text)
+}
+
+// Whether a line is this order in the first issue.
+fn is_the_order(line: &GatewayScriptLine) -> bool {
+    let order = Event::Order {
+        participant: Participant(0),
+        side: Side::Buy,
+        kind: Kind::Limit(Price(20010)),
+        qty: Qty(500),
+    };
+    line.gateway == Caller(1) && line.line.issue == 0 && line.line.act == Act::Do(order)
+}
+
+// How many of these lines read as the order.
+fn orders_of(alloc: Global, rules: &Rules) -> Result<usize, Fail>
+    requires { IsRules rules.now }
+{
+    let text = padded_lines(alloc)?;
+    let script = script(alloc, rules, &text).map_err(|_| "the script is refused")?;
+    let lines = script.lines.as_slice();
+    Ok(lines.iter().filter(|line| is_the_order(line)).count())
+}
+
+fn orders_of_two(alloc: Global) -> Result<usize, Fail> {
+    let rules = two_gateways(alloc)?;
+    orders_of(alloc, &rules)
+}
+
+#[test]
+fn blanks_of_any_number(rt: HostRuntime) -> Result<(), Fail> {
+    let orders = orders_of_two(rt.alloc())?;
+    assert_eq!(rt; orders, 280);
     Ok(())
 }

@@ -1,9 +1,17 @@
 use Rattle.std.proofs.Common.{sym}
+use Rattle.std.proofs.lemmas.Result.{MatchResult-weaker}
 use Rattle.script_file.proofs.ReaderLemmas.{line_said-err, line_said-ok}
+use Rattle.script_file.proofs.ScriptLemmas.{IsScript-said}
 use Rattle.script_file.proofs.reader.Reader.read_line.Goals as goal
 
-pub returns-in-Ok : goal.returns-in-Ok
-returns-in-Ok c = rw (line_said-ok c.args.rules.now c.args.self.now c.args.number c.args.text.now c.in-Ok.said (sym c.in-Ok.ensures.exact)) c.add.ensures
+pub returns-in-Ok-clause-exact : goal.returns-in-Ok-clause-exact
+returns-in-Ok-clause-exact c = rw (line_said-ok c.args.rules.now c.args.self.now c.args.number c.args.text.now c.in-Ok.said (sym c.in-Ok.ensures.exact)) c.add.ensures
 
-pub returns-in-Err : goal.returns-in-Err
-returns-in-Err c = rw c.at_line.ensures (line_said-err c.args.rules.now c.args.self.now c.args.number c.args.text.now c.in-Err.fault (sym c.in-Err.ensures.exact))
+pub returns-in-Ok-clause-sound : goal.returns-in-Ok-clause-sound
+returns-in-Ok-clause-sound c =
+    MatchResult-weaker c.add.result c.add.ensures
+    (λ _ e. IsScript-said c.args.rules.now c.args.self.now c.add.new.self c.args.number c.in-Ok.said e c.in-Ok.ensures.known)
+    (λ _ _. tt)
+
+pub returns-in-Err-clause-exact : goal.returns-in-Err-clause-exact
+returns-in-Err-clause-exact c = rw c.at_line.ensures (line_said-err c.args.rules.now c.args.self.now c.args.number c.args.text.now c.in-Err.fault (sym c.in-Err.ensures.exact))
