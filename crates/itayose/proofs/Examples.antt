@@ -14,7 +14,7 @@ use Rattle.allotment.specs.declared.demand.Demand.{Demand}
 use Rattle.allotment.specs.declared.round.Round.{Round}
 use Rattle.allotment.specs.declared.round.Round.TheVariants.{Units, Part, All}
 use Rattle.book_law.specs.Paired.{trade_of}
-use Rattle.itayose.specs.Fills.{allotted_fills, auction_fills}
+use Rattle.itayose.specs.Fills.{allotted_fills, auction_fills, demands_by_number}
 use Rattle.itayose.specs.declared.margin.Margin.TheVariants.{Time, Rounds}
 
 abbrev price : ℕ → Price
@@ -50,11 +50,11 @@ earlier_first = refl
 -- units, and the 200 that are left to the first.
 shared_by_rounds : auction_fills three_prices (order_of 0 1 Buy (At 1) 800 ∷ order_of 1 2 Buy (At 1) 600 ∷ order_of 2 3 Sell (At 1) 700 ∷ []) 1010 Rounds four_rounds 100
     ≡ record { shares = demand 0 1 800 500 ∷ demand 1 2 600 200 ∷ []; trades = trade_of 1010 500 1 3 ∷ trade_of 1010 200 2 3 ∷ [] }
-unfolding total_left in_priority quantity from_front less_front pair filled_at allot after_round
+unfolding total_left in_priority quantity from_front less_front pair filled_at allot after_round demands_by_number
 shared_by_rounds = refl
 
 -- an allotted close: market orders and the limit at the highest price share 1,000 shares
 allotted_close : allotted_fills three_prices (order_of 0 1 Buy Market 800 ∷ order_of 1 2 Buy Market 600 ∷ order_of 2 3 Buy (At 2) 200 ∷ order_of 3 4 Sell (At 0) 1000 ∷ []) Buy four_rounds 100
     ≡ record { shares = demand 0 1 800 500 ∷ demand 1 2 600 300 ∷ demand 2 3 200 200 ∷ []; trades = trade_of 1020 500 1 4 ∷ trade_of 1020 300 2 4 ∷ trade_of 1020 200 3 4 ∷ [] }
-unfolding total_left in_priority quantity from_front less_front pair filled_at allot after_round
+unfolding total_left in_priority quantity from_front less_front pair filled_at allot after_round demands_by_number
 allotted_close = refl

@@ -2,7 +2,6 @@
 use Rattle.std.proofs.Common.{◌≡◌, ℕ, ◌+◌, ◌-◌, ◌<◌, ◌≤◌, min, Bool, true, false, cond, not, nat_le, ltb, leb, eqb, ◌&&◌, ◌||◌, ◌⊎◌, inl, inr, List, [], ◌∷◌, length, All, is_some, sum_by, refl, sym, ap, subst, ◌∙◌, arith, leb-false, leb-true, ltb-false}
 use Rattle.std.specs.List.{AllByRecursion, list_any}
 use Rattle.std.proofs.lemmas.Bool.Decides.{nat_tests}
-use Rattle.std.proofs.lemmas.List.Elements.{All-from_recursion}
 use Rattle.std.proofs.lemmas.List.Sums.{sum_by-cons}
 use Rattle.mkt_base.specs.Book.{is_buy, is_buy_above, is_buy_at, is_market_or, is_sell_at, is_sell_below, limit_of}
 use Rattle.mkt_base.specs.Fills.{Fill, after_trades, all_of, bought_at, filled, filled_at, from_front, quantity, sold_at, traded_at, whole}
@@ -20,10 +19,9 @@ use Rattle.auction_law.proofs.SumsLemmas.{above-le-buys, below-le-sells}
 use Rattle.book_law.specs.Paired.{after_fronts, paired}
 use Rattle.book_law.specs.Sides.{total}
 use Rattle.book_law.proofs.LeftLemmas.{none-better_left}
-use Rattle.book_law.proofs.Pairs.{Pairs, pairs-from_AllPairs, weaken}
-use Rattle.book_law.proofs.PlaceLemmas.{sums-of_sides}
+use Rattle.book_law.proofs.Pairs.{Pairs}
 use Rattle.itayose.specs.Fills.{side_filling}
-use Rattle.itayose.specs.Laws.{CalmAfterwards, IsSettling, NoneTradesMore, VolumeIsTraded, trades_by_time}
+use Rattle.itayose.specs.Laws.{CalmAfterwards, IsSettling, VolumeIsTraded, trades_by_time}
 use Rattle.itayose.specs.declared.margin.Margin.TheVariants.{Time}
 use Rattle.itayose.proofs.BestLemmas.{all-limited, fails, is-some, limit-fails, not-of}
 use Rattle.itayose.proofs.TradingLemmas.{buys-by_time, fills-by_time, sells-by_time, within-sides}
@@ -83,11 +81,11 @@ volume_is_traded grid os p s =
 -- ---- what an order trades
 
 -- what some orders have at a place
-abbrev left_at : ℕ → List Order → ℕ
+abbrev pub left_at : ℕ → List Order → ℕ
 left_at place os = sum_by (λ o. cond (eqb place o.place) o.left 0) os
 
 -- the front of some fills has no more at a place than they have
-shorter-at : (place n : ℕ) (fs : List Fill) → filled_at place (from_front n fs) ≤ filled_at place fs
+pub shorter-at : (place n : ℕ) (fs : List Fill) → filled_at place (from_front n fs) ≤ filled_at place fs
 unfolding filled_at from_front
 shorter-at place n [] = omega arith
 shorter-at place n (f ∷ fs) =
@@ -100,7 +98,7 @@ shorter-at place n (f ∷ fs) =
     least false = omega arith
 
 -- all that some orders have, at a place
-whole-at : (place : ℕ) (os : List Order) → filled_at place (whole os) ≡ left_at place os
+pub whole-at : (place : ℕ) (os : List Order) → filled_at place (whole os) ≡ left_at place os
 unfolding filled_at
 whole-at place [] = refl
 whole-at place (o ∷ os) = omega (arith, whole-at place os, sum_by-cons (λ f. cond (eqb place f.place) f.qty 0) (all_of o) (whole os), sum_by-cons (λ x. cond (eqb place x.place) x.left 0) o os)
@@ -110,7 +108,7 @@ front-at : (place n : ℕ) (os : List Order) → filled_at place (from_front n (
 front-at place n os = omega (arith, shorter-at place n (whole os), whole-at place os)
 
 -- what is traded at a place is bought there or sold there
-traded-sides : (place : ℕ) (ts : List Trade) → traded_at ts place ≤ bought_at place ts + sold_at place ts
+pub traded-sides : (place : ℕ) (ts : List Trade) → traded_at ts place ≤ bought_at place ts + sold_at place ts
 unfolding traded_at bought_at sold_at
 traded-sides place [] = omega arith
 traded-sides place (t ∷ ts) =
@@ -132,7 +130,7 @@ paired-at p v place bs ss =
     omega (arith, traded-sides place (paired p v bs ss), bought, sold)
 
 -- orders behind one at an earlier place have nothing at it
-none-at : (place : ℕ) (os : List Order) → AllByRecursion (λ o. place < o.place) os → left_at place os ≡ 0
+pub none-at : (place : ℕ) (os : List Order) → AllByRecursion (λ o. place < o.place) os → left_at place os ≡ 0
 none-at place [] later = refl
 none-at place (o ∷ os) later =
     let rest = none-at place os later.1 in
@@ -141,7 +139,7 @@ none-at place (o ∷ os) later =
     omega (arith, rest, here, sum_by-cons (λ x. cond (eqb place x.place) x.left 0) o os)
 
 -- at an order's place its book has what it has left
-own-left : (os : List Order) → Pairs (λ a b. a.place < b.place) os → AllByRecursion (λ o. left_at o.place os ≤ o.left) os
+pub own-left : (os : List Order) → Pairs (λ a b. a.place < b.place) os → AllByRecursion (λ o. left_at o.place os ≤ o.left) os
 own-left [] places = tt
 own-left (x ∷ xs) places = (first, others xs places.0 (own-left xs places.1))
   where
@@ -158,20 +156,6 @@ own-left (x ∷ xs) places = (first, others xs places.0 (own-left xs places.1))
         let other : eqb y.place x.place ≡ false = grind (arith, nat_tests, later.0) in
         let here : cond (eqb y.place x.place) x.left 0 ≡ 0 = ap (λ b. cond b x.left 0) other in
         (omega (arith, own.0, here, sum_by-cons (λ o. cond (eqb y.place o.place) o.left 0) x xs), others ys later.1 own.1)
-
--- so no order trades more than it has
-pub none_trades_more : NoneTradesMore
-none_trades_more grid os p s =
-    All-from_recursion (λ o. traded_at (trades_by_time grid os p) o.place ≤ o.left) os
-    (weaken (λ o. left_at o.place os ≤ o.left) (λ o. traded_at (trades_by_time grid os p) o.place ≤ o.left) (λ o own. least o own) os
-    (own-left os (pairs-from_AllPairs (λ a b. a.place < b.place) os s.book.book.by_place)))
-  where
-    least : (o : Order) → left_at o.place os ≤ o.left → traded_at (trades_by_time grid os p) o.place ≤ o.left
-    least o own =
-        let bs = in_priority (length grid) Buy os in
-        let ss = in_priority (length grid) Sell os in
-        let same : traded_at (trades_by_time grid os p) o.place ≡ traded_at (paired p (volume_at grid os p) bs ss) o.place = ap (λ ts. traded_at ts o.place) (trades-are grid os p s) in
-        omega (arith, same, paired-at p (volume_at grid os p) o.place bs ss, sums-of_sides (λ x. cond (eqb o.place x.place) x.left 0) (length grid) os s.book.spots, own)
 
 -- ---- the book afterwards
 

@@ -49,9 +49,13 @@ demand_of os participant =
       share = 0;
     }
 
--- the demands of the participants that have orders; participants are numbered below 64
+-- the demands of all participants, who are numbered below 64
+unfoldable pub demands_by_number : List Order → List Demand
+demands_by_number os = map (demand_of os) (range_with_len 0 64)
+
+-- those of the participants that have orders
 abbrev pub demands_of : List Order → List Demand
-demands_of os = filter (λ d. nat_lt 0 d.asked) (map (demand_of os) (range_with_len 0 64))
+demands_of os = filter (λ d. nat_lt 0 d.asked) (demands_by_number os)
 
 -- inside a participant its orders fill by place
 abbrev pub own_fills : List Order → Demand → List Fill

@@ -3,17 +3,23 @@
 #![tactic(auto)]
 
 mod answer;
+mod filling;
 mod law;
 mod margin;
 mod outward;
 mod positions;
+mod rounds;
 mod settling;
+mod sharing;
 mod telling;
 mod trading;
 
 pub use answer::attempt;
-pub use law::{calm_afterwards, none_trades_more, volume_is_traded};
+pub use law::{
+    calm_afterwards, close_trades_fairly, none_trades_more, sides_lose_trades, trades_are_whole,
+    volume_is_traded,
+};
 pub use margin::Margin;
 pub use positions::Attempt;
-pub use settling::settle;
+pub use settling::{settle, share_out};
 pub use telling::certificate;

@@ -54,7 +54,7 @@ fn trade_first<W: Watch>(book: &mut Book, price: Price, most: u64, watch: &mut W
 }
 
 // The first order of a side that has one, and the handle that names it.
-fn first_of(book: &Book, side: Side) -> (Handle, Order)
+pub(crate) fn first_of(book: &Book, side: Side) -> (Handle, Order)
     requires { 0 < total (side_of book.now side) }
     ensures names { Names book.now result.0 result.1 }
     ensures first { slice_get (side_of book.now side) 0 ≡ Some result.1 }
