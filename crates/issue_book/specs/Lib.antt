@@ -1,0 +1,12 @@
+pub mod Closing
+pub mod Entering
+pub mod Fields
+pub mod Filled
+pub mod Fills
+pub mod Handles
+pub mod Holding
+pub mod IssueView
+pub mod Limits
+pub mod Quoting
+pub mod Sessions
+pub mod State

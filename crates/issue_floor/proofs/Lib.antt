@@ -1,0 +1,5 @@
+pub mod FilledLemmas
+pub mod FloorLemmas
+pub mod QuotedLemmas
+pub mod StartLemmas
+pub mod ToldLemmas
