@@ -1,0 +1,7 @@
+mod Examples
+pub mod OrderLemmas
+pub mod BoundaryLemmas
+pub mod MoveLemmas
+pub mod DueLemmas
+pub mod AdvanceLemmas
+pub mod EventLemmas
