@@ -12,7 +12,8 @@ use Rattle.issue_book.specs.State.{State, Terms, start, stay}
 use Rattle.issue_machine.specs.Answering.{Replied, take_cancel, take_change, take_order}
 use Rattle.issue_machine.specs.Clock.{take_clock}
 
--- What the event of an entry does. The rules of nodes stand in for: no journal has their events yet.
+-- What the event of an entry does. The rules of nodes are still to come: no journal has their events yet, and their lines below only
+-- stand in for them.
 abbrev pub event_step : Terms → Entry → Event → State → Replied
 event_step t e (events.Order participant side kind qty) s = take_order t e participant side kind qty s
 event_step t e (events.Change participant target kind qty) s = take_change t e participant target kind qty s

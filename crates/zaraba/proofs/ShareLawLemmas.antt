@@ -31,16 +31,16 @@ use Rattle.zaraba.proofs.PriceLawLemmas.{trade-qty}
 -- ---- sums
 
 -- equal terms have equal sums
-sums-agree : {X : Type 0} (f g : X → ℕ) (xs : List X) → AllByRecursion (λ x. f x ≡ g x) xs → sum_by f xs ≡ sum_by g xs
+pub sums-agree : {X : Type 0} (f g : X → ℕ) (xs : List X) → AllByRecursion (λ x. f x ≡ g x) xs → sum_by f xs ≡ sum_by g xs
 sums-agree f g [] all = refl
 sums-agree f g (x ∷ xs) all = let rest = sums-agree f g xs all.1 in let here : f x ≡ g x = all.0 in omega (arith, sum_by-cons f x xs, sum_by-cons g x xs, rest, here)
 
-each : {X : Type 0} (P : X → Type 0) → ((x : X) → P x) → (xs : List X) → AllByRecursion P xs
+pub each : {X : Type 0} (P : X → Type 0) → ((x : X) → P x) → (xs : List X) → AllByRecursion P xs
 each P f [] = tt
 each P f (x ∷ xs) = (f x, each P f xs)
 
 -- what passes a test is no more than all
-sum-filter : (f : Order → ℕ) (t : Order → Bool) (xs : List Order) → sum_by f (filter t xs) ≤ sum_by f xs
+pub sum-filter : (f : Order → ℕ) (t : Order → Bool) (xs : List Order) → sum_by f (filter t xs) ≤ sum_by f xs
 sum-filter f t [] = omega arith
 sum-filter f t (x ∷ xs) = step (t x) (sum-filter f t xs)
   where
@@ -89,7 +89,7 @@ swap-tests false true n = refl
 swap-tests false false n = refl
 
 -- the same over a side in its priority: an order's place counts there for the order, if it is of the side
-side-own : (g : ℕ → Order → ℕ) (n : ℕ) (side : Side) (os : List Order) → IsBookOn n os
+pub side-own : (g : ℕ → Order → ℕ) (n : ℕ) (side : Side) (os : List Order) → IsBookOn n os
     → AllByRecursion (λ x. (v : ℕ) → sum_by (λ y. cond (eqb x.place y.place) (g v y) 0) (in_priority n side os) ≡ cond (is_same_side side x.side) (g v x) 0) os
 unfolding at-place
 side-own g n side os is =
@@ -106,7 +106,7 @@ side-own g n side os is =
 -- ---- what an arrival trades, by the place
 
 -- what some orders have at a place
-abbrev left_at : ℕ → List Order → ℕ
+abbrev pub left_at : ℕ → List Order → ℕ
 left_at place xs = sum_by (λ x. cond (eqb place x.place) x.left 0) xs
 
 -- no trades trade nothing
@@ -227,7 +227,7 @@ none_fills_more grid range orders o last is = (
 
 -- ---- what is bought is sold
 
-sum-parts : {X : Type 0} (f g h : X → ℕ) → ((x : X) → f x ≡ g x + h x) → (xs : List X) → sum_by f xs ≡ sum_by g xs + sum_by h xs
+pub sum-parts : {X : Type 0} (f g h : X → ℕ) → ((x : X) → f x ≡ g x + h x) → (xs : List X) → sum_by f xs ≡ sum_by g xs + sum_by h xs
 sum-parts f g h parts [] = refl
 sum-parts f g h parts (x ∷ xs) = let rest = sum-parts f g h parts xs in let here = parts x in omega (arith, sum_by-cons f x xs, sum_by-cons g x xs, sum_by-cons h x xs, rest, here)
 
@@ -245,7 +245,7 @@ all-traded (t ∷ ts) ys all =
     omega (arith, rest, here, parts, sum_by-cons (λ u. u.qty) t ts)
 
 -- orders that trade no more than they have lose what they trade
-total-after : (ts : List Trade) (ys : List Order) → AllByRecursion (λ y. traded_at ts y.place ≤ y.left) ys → sum_by (λ y. traded_at ts y.place) ys + total (after_trades ts ys) ≡ total ys
+pub total-after : (ts : List Trade) (ys : List Order) → AllByRecursion (λ y. traded_at ts y.place ≤ y.left) ys → sum_by (λ y. traded_at ts y.place) ys + total (after_trades ts ys) ≡ total ys
 unfolding after_trades quantity
 total-after ts [] all = refl
 total-after ts (y ∷ ys) all = step (ltb 0 (less_traded ts y).left) refl (total-after ts ys all.1)

@@ -1,5 +1,5 @@
 -- Laws of an order's arrival: each is the clause of a function of the same name.
-use Rattle.std.specs.Prelude.{◌≡◌, ◌≢◌, ◌⊎◌, ℕ, ◌+◌, ◌*◌, ◌%◌, ◌<◌, ◌≤◌, List, length, All, sum_by}
+use Rattle.std.specs.Prelude.{◌≡◌, ◌≢◌, ◌⊎◌, ℕ, ◌+◌, ◌*◌, ◌%◌, ◌<◌, ◌≤◌, true, List, length, All, sum_by}
 use Rattle.mkt_base.specs.Book.{IsRising, price_at}
 use Rattle.mkt_base.specs.Fills.{after_trades, traded_at}
 use Rattle.mkt_base.specs.Priority.{in_priority}
@@ -7,11 +7,12 @@ use Rattle.mkt_base.specs.declared.order.Order.{Order}
 use Rattle.mkt_base.specs.declared.order.Side.{Side}
 use Rattle.mkt_base.specs.declared.order.Side.TheVariants.{Buy, Sell}
 use Rattle.mkt_base.specs.declared.units.Price.{Price}
+use Rattle.auction_law.specs.Attempt.{is_calm}
 use Rattle.auction_law.specs.Nearness.{distance}
 use Rattle.book_law.specs.Laws.{IsBookOn}
 use Rattle.book_law.specs.Sides.{total}
-use Rattle.zaraba.specs.Arrival.{Arrival, arrival, opposite}
-use Rattle.zaraba.specs.declared.stop.Stop.TheVariants.{Gap, Sequence}
+use Rattle.zaraba.specs.Arrival.{Arrival, arrival, book_after, opposite}
+use Rattle.zaraba.specs.declared.stop.Stop.TheVariants.{Done, Gap, Sequence}
 
 -- an order arrives at a book over a rising grid, later than all that stand there
 pub record IsArriving (grid : List Price) (orders : List Order) (o : Order) : Type 0 where
@@ -71,3 +72,9 @@ abbrev pub SequenceIsBeyond : Type 0
 SequenceIsBeyond = (grid : List Price) (range : ℕ → ℕ) (orders : List Order) (o : Order) (last : ℕ) → IsArriving grid orders o
     → (side : Side) → (arrival grid range orders o last).stop ≡ Sequence side
     → (side ≡ o.side) × (k : ℕ) × (k < length grid) × IsBeyond side (2 * range last) last (price_at grid k)
+
+-- Where an order is done, a calm book is calm behind its arrival.
+abbrev pub DoneStaysCalm : Type 0
+DoneStaysCalm = (grid : List Price) (range : ℕ → ℕ) (orders : List Order) (o : Order) (last : ℕ) → IsArriving grid orders o → is_calm grid orders ≡ true
+    → (arrival grid range orders o last).stop ≡ Done
+    → is_calm grid (book_after (arrival grid range orders o last) orders o) ≡ true

@@ -1,5 +1,5 @@
 // The laws of an order's arrival, which hold of the definition for every book, every table of ranges and every last price.
-ghost use Rattle.zaraba.specs.Laws.{BoughtIsSold, LastIsNear, NoneFillsMore, SequenceIsBeyond, StoppedHasLeft, TradesStand};
+ghost use Rattle.zaraba.specs.Laws.{BoughtIsSold, DoneStaysCalm, LastIsNear, NoneFillsMore, SequenceIsBeyond, StoppedHasLeft, TradesStand};
 
 /// No order trades more than it has left, and an order that arrives has left what it does not trade.
 pub fn none_fills_more()
@@ -29,4 +29,9 @@ pub fn stopped_has_left()
 /// Where an order stops at a sequence, some price of the grid is too far from the one at its arrival, to its own way.
 pub fn sequence_is_beyond()
     ensures { SequenceIsBeyond }
+{}
+
+/// An order that is done leaves a calm book calm: no market order is left, and no limit buy at or above a limit sell.
+pub fn done_stays_calm()
+    ensures { DoneStaysCalm }
 {}

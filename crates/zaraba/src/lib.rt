@@ -8,7 +8,7 @@ mod stop;
 
 pub use arriving::{Arrived, incoming};
 pub use law::{
-    bought_is_sold, last_is_near, none_fills_more, sequence_is_beyond, stopped_has_left,
-    trades_stand,
+    bought_is_sold, done_stays_calm, last_is_near, none_fills_more, sequence_is_beyond,
+    stopped_has_left, trades_stand,
 };
 pub use stop::Stop;

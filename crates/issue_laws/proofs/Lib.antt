@@ -1,0 +1,9 @@
+pub mod Standing
+pub mod Auctions
+pub mod Orders
+pub mod Steps
+pub mod Balance
+pub mod Margins
+pub mod Moves
+pub mod SideMeasure
+pub mod PlaceMeasure
