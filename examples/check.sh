@@ -1,20 +1,25 @@
 #!/usr/bin/env bash
-# Holds the auction of each example of one, checks each rules file, and compares what is written with what is expected:
-# standard output and standard error together. Ends with status 1 where one differs.
+# Holds the auction of each example of one, checks each rules file, replays each day, and compares what is written with what
+# is expected: standard output and standard error together. Ends with status 1 where one differs.
 examples=$(cd "$(dirname "$0")" && pwd) || exit 2
 differing=0
-compare() { # COMMAND FILE NAME
-    if diff <("$examples/../market" "$1" "$2" 2>&1) "$examples/$3.expected"; then
-        echo "ok $3"
+compare() { # EXPECTED WORD..
+    local expected=$1
+    shift
+    if diff <("$examples/../market" "$@" 2>&1) "$examples/$expected"; then
+        echo "ok $expected"
     else
-        echo "differs $3"
+        echo "differs $expected"
         differing=1
     fi
 }
 for file in "$examples"/*.auction; do
-    compare auction "$file" "$(basename "$file" .auction)"
+    compare "$(basename "$file" .auction).expected" auction "$file"
 done
 for file in "$examples"/*.toml; do
-    compare check "$file" "$(basename "$file" .toml)"
+    compare "$(basename "$file" .toml).expected" check "$file"
+done
+for file in "$examples"/day/*.txt; do
+    compare "day/$(basename "$file" .txt).report" replay "$examples/day/rules.toml" "$file"
 done
 exit $differing

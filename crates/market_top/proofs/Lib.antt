@@ -1,1 +1,2 @@
-mod VerdictLemmas
+pub mod ReplayLemmas
+pub mod VerdictLemmas

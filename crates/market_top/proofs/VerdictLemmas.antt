@@ -14,11 +14,16 @@ use Rattle.rules_file.specs.Rules.{rules_of}
 use Rattle.rules_file.specs.declared.fault.RulesFault.{RulesFault}
 use Rattle.rules_file.specs.declared.fault.RulesFault.TheVariants as faults
 use Rattle.rules_file.specs.declared.rules.Rules.{Rules}
+use Rattle.script_file.specs.Script.{script_of}
+use Rattle.script_file.specs.declared.fault.ScriptFault.{ScriptFault}
+use Rattle.script_file.specs.declared.fault.ScriptFault.TheVariants.{At, Memory as NoMemory}
+use Rattle.script_file.specs.declared.script.Script.{Script}
 use Rattle.market_top.specs.Auction.{IsAuctionVerdict, IsFileVerdict, certified}
 use Rattle.market_top.specs.Check.{IsCheckVerdict, OnRules, no_rules, refused_rules, tabled}
-use Rattle.market_top.specs.Command.{Asked, auction, check}
+use Rattle.market_top.specs.Command.{Asked, auction, check, replay}
 use Rattle.market_top.specs.Program.{Answered, IsVerdict}
-use Rattle.market_top.specs.Verdict.{Delivered, IsRead, OnFile, Told, Verdict, unread}
+use Rattle.market_top.specs.Replay.{IsReplayVerdict, IsReplayed, IsReported, IsScriptVerdict, OnScript}
+use Rattle.market_top.specs.Verdict.{Delivered, IsRead, OnFile, Told, Verdict, no_memory, unread}
 
 -- nothing is written
 pub Appends-nothing : (known : Option (List ℕ)) → Appends known known []
@@ -80,18 +85,29 @@ record IsCaused (asked : Option Asked) (shelf_failed : Type 0) (status : ℕ) : 
 AnswersBytes : (List ℕ → Verdict → Type 0) → Type 0
 AnswersBytes on = (bytes : List ℕ) (v : Verdict) → on bytes v → v.status ≤ 1
 
+caused-done : (asked : Option Asked) (shelf_failed : Type 0) (v : Verdict) → v.status ≤ 1 → IsCaused asked shelf_failed v.status
+caused-done asked shelf_failed v few = record { known = omega arith; not_4 = λ s. absurd (omega arith); words = λ s. absurd (omega arith); reading = λ s. absurd (omega arith) }
+
+caused-five : (asked : Option Asked) (shelf_failed : Type 0) (v : Verdict) → v.status ≡ 5 → IsCaused asked shelf_failed v.status
+caused-five asked shelf_failed v five = record { known = omega arith; not_4 = λ s. absurd (omega arith); words = λ s. absurd (omega arith); reading = λ s. absurd (omega arith) }
+
+caused-no_memory : (asked : Option Asked) (shelf_failed : Type 0) (v : Verdict) → v ≡ no_memory → IsCaused asked shelf_failed v.status
+caused-no_memory asked shelf_failed v is = caused-five asked shelf_failed v (ap (λ (w : Verdict). w.status) is)
+
+caused-within : (asked : Option Asked) (limit : ℕ) (files : Option (List ℕ → Option (List ℕ))) (shelf_failed : Type 0) (name : List ℕ) (on : List ℕ → Verdict → Type 0)
+    → ((bytes : List ℕ) (v : Verdict) → on bytes v → IsCaused asked shelf_failed v.status)
+    → (v : Verdict) → OnFile limit files shelf_failed name on v → IsCaused asked shelf_failed v.status
+caused-within asked limit files shelf_failed name on causes v (inl read) =
+    let three : v.status ≡ 3 = ap (λ (w : Verdict). w.status) read.0 in
+    record { known = omega arith; not_4 = λ s. absurd (omega arith); words = λ s. absurd (omega arith); reading = λ s. read.1 }
+caused-within asked limit files shelf_failed name on causes v (inr (inl is)) = caused-no_memory asked shelf_failed v is
+caused-within asked limit files shelf_failed name on causes v (inr (inr said)) = causes said.0 v said.2
+
 caused-on : (asked : Option Asked) (limit : ℕ) (files : Option (List ℕ → Option (List ℕ))) (shelf_failed : Type 0) (name : List ℕ) (on : List ℕ → Verdict → Type 0) → AnswersBytes on
     → (v : Verdict) → OnFile limit files shelf_failed name on v → IsCaused asked shelf_failed v.status
 unfolding AnswersBytes
-caused-on asked limit files shelf_failed name on answers v (inl read) =
-    let three : v.status ≡ 3 = ap (λ (w : Verdict). w.status) read.0 in
-    record { known = omega arith; not_4 = λ s. absurd (omega arith); words = λ s. absurd (omega arith); reading = λ s. read.1 }
-caused-on asked limit files shelf_failed name on answers v (inr (inl is)) =
-    let five : v.status ≡ 5 = ap (λ (w : Verdict). w.status) is in
-    record { known = omega arith; not_4 = λ s. absurd (omega arith); words = λ s. absurd (omega arith); reading = λ s. absurd (omega arith) }
-caused-on asked limit files shelf_failed name on answers v (inr (inr said)) =
-    let few : v.status ≤ 1 = answers said.0 v said.2 in
-    record { known = omega arith; not_4 = λ s. absurd (omega arith); words = λ s. absurd (omega arith); reading = λ s. absurd (omega arith) }
+caused-on asked limit files shelf_failed name on answers =
+    caused-within asked limit files shelf_failed name on (λ bytes v said. caused-done asked shelf_failed v (answers bytes v said))
 
 file-status : (read : Result Auction (ℕ × LineFault)) (v : Verdict) → IsFileVerdict read v → v.status ≤ 1
 file-status (Err fault) v is = let one : v.status ≡ 1 = ap (λ (w : Verdict). w.status) is in omega arith
@@ -100,6 +116,21 @@ file-status (Ok a) v is = let zero : v.status ≡ 0 = ap (λ (w : Verdict). w.st
 rules-status : (read : Result Rules RulesFault) (v : Verdict) → OnRules read (λ rules w. w ≡ tabled rules) v → v.status ≤ 1
 rules-status (Err fault) v is = let one : v.status ≡ 1 = ap (λ (w : Verdict). w.status) is in omega arith
 rules-status (Ok rules) v is = let zero : v.status ≡ 0 = ap (λ (w : Verdict). w.status) is in omega arith
+
+script-caused : (asked : Option Asked) (shelf_failed : Type 0) (rules : Rules) (read : Result Script ScriptFault) (v : Verdict) → OnScript read (IsReplayed rules) v → IsCaused asked shelf_failed v.status
+script-caused asked shelf_failed rules (Err (At number fault)) v is = let one : v.status ≡ 1 = ap (λ (w : Verdict). w.status) is in caused-done asked shelf_failed v (omega arith)
+script-caused asked shelf_failed rules (Err NoMemory) v is = caused-no_memory asked shelf_failed v is
+script-caused asked shelf_failed rules (Ok script) v is = by is.3
+  where
+    by : IsReported rules is.0 v → IsCaused asked shelf_failed v.status
+    by (inl whole) = let zero : v.status ≡ 0 = ap (λ (w : Verdict). w.status) whole in caused-done asked shelf_failed v (omega arith)
+    by (inr part) = caused-five asked shelf_failed v (ap (λ (w : Verdict). w.status) part.1)
+
+replay-caused : (asked : Option Asked) (files : Option (List ℕ → Option (List ℕ))) (shelf_failed : Type 0) (script : List ℕ) (read : Result Rules RulesFault) (v : Verdict)
+    → OnRules read (λ rules. OnFile 101000000 files shelf_failed script (IsScriptVerdict rules)) v → IsCaused asked shelf_failed v.status
+replay-caused asked files shelf_failed script (Err fault) v is = let one : v.status ≡ 1 = ap (λ (w : Verdict). w.status) is in caused-done asked shelf_failed v (omega arith)
+replay-caused asked files shelf_failed script (Ok rules) v is =
+    caused-within asked 101000000 files shelf_failed script (IsScriptVerdict rules) (λ bytes w said. script-caused asked shelf_failed rules (script_of rules bytes) w said) v is
 
 caused : (asked : Option Asked) (files : Option (List ℕ → Option (List ℕ))) (shelf_failed : Type 0) (v : Verdict) → IsVerdict asked files shelf_failed v → IsCaused asked shelf_failed v.status
 unfolding AnswersBytes
@@ -110,6 +141,9 @@ caused (Some (auction file)) files shelf_failed v is =
     caused-on _ 101000000 files shelf_failed file IsAuctionVerdict (λ bytes. file-status (auction_of bytes)) v is
 caused (Some (check rules)) files shelf_failed v is =
     caused-on _ 1048576 files shelf_failed rules IsCheckVerdict (λ bytes. rules-status (rules_of bytes)) v is
+caused (Some (replay rules script)) files shelf_failed v is =
+    caused-within _ 1048576 files shelf_failed rules (IsReplayVerdict (OnFile 101000000 files shelf_failed script))
+    (λ bytes w said. replay-caused _ files shelf_failed script (rules_of bytes) w said) v is
 
 -- rules that are read have their tables as the verdict
 pub good-rules : (bytes : List ℕ) (rules : Rules) → rules_of bytes ≡ Ok rules → IsCheckVerdict bytes (tabled rules)

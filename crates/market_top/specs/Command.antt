@@ -8,6 +8,7 @@ use Rattle.market_top.specs.declared.command.Command.TheVariants as variants
 pub data Asked : Type 0 where
   auction : List ℕ → Asked
   check : List ℕ → Asked
+  replay : List ℕ → List ℕ → Asked
 
 -- a file's name is not empty and does not begin with a dash
 abbrev pub is_file_word : List ℕ → Bool
@@ -20,21 +21,28 @@ one_file name file =
     else (if bytes_eq name (codes "check") then Some (check file)
     else None)
 
+-- the commands over two files: `replay RULES SCRIPT`
+unfoldable pub two_files : List ℕ → List ℕ → List ℕ → Option Asked
+two_files name first second = if bytes_eq name (codes "replay") then Some (replay first second) else None
+
 -- the command that the words are; any other words are refused
 unfoldable pub command_of : List (List ℕ) → Option Asked
 command_of (name ∷ file ∷ []) = if is_file_word file then one_file name file else None
+command_of (name ∷ first ∷ second ∷ []) = if is_file_word first && is_file_word second then two_files name first second else None
 command_of words = None
 
 -- how many words a command has
 abbrev pub word_count : Asked → ℕ
 word_count (auction file) = 2
 word_count (check rules) = 2
+word_count (replay rules script) = 3
 
 -- the names of files that a command reads
 abbrev pub files_of : Option Asked → List (List ℕ)
 files_of None = []
 files_of (Some (auction file)) = file ∷ []
 files_of (Some (check rules)) = rules ∷ []
+files_of (Some (replay rules script)) = rules ∷ script ∷ []
 
 -- the words that name files
 abbrev pub file_words : List (List ℕ) → List (List ℕ)
@@ -44,3 +52,4 @@ file_words words = files_of (command_of words)
 abbrev pub asked : rust.Command → Asked
 asked (variants.Auction file) = auction file.now
 asked (variants.Check rules) = check rules.now
+asked (variants.Replay rules script) = replay rules.now script.now

@@ -10,8 +10,12 @@ pub use Rattle.auction_file.specs.EvenGrid
 pub use Rattle.rules_file.specs.Rules
 pub use Rattle.rules_report.specs.FaultLine
 pub use Rattle.rules_report.specs.Tables
+pub use Rattle.script_file.specs.Script
+pub use Rattle.run_report.specs.Report
+pub use Rattle.script_run.specs.Run
 pub mod Auction
 pub mod Check
 pub mod Command
 pub mod Program
+pub mod Replay
 pub mod Verdict

@@ -3,16 +3,20 @@ use Rattle.std.specs.Prelude.{◌≡◌, ◌⊎◌, ◌≤◌, ℕ, List, Option
 use Rattle.mkt_io.specs.Faults.{Rises}
 use Rattle.market_top.specs.Auction.{IsAuctionVerdict}
 use Rattle.market_top.specs.Check.{IsCheckVerdict}
-use Rattle.market_top.specs.Command.{Asked, auction, check}
+use Rattle.market_top.specs.Command.{Asked, auction, check, replay}
+use Rattle.market_top.specs.Replay.{IsReplayVerdict}
 use Rattle.market_top.specs.Verdict.{Delivered, OnFile, Verdict, refused_words}
 
 -- The verdict on a command, in the order of refusals: the words, then reading (only where the shelf failed), then
--- the file. That there is no memory may come at any time after the words. At most 101,000,000 bytes of an auction file and
--- 1,048,576 of a rules file are read, and one more.
+-- the file; of a command over two files the second is read where the first is not refused. That there is no memory may come
+-- at any time after the words. At most 101,000,000 bytes of an auction file or a script and 1,048,576 of a rules file are
+-- read, and one more.
 abbrev pub IsVerdict : Option Asked → Option (List ℕ → Option (List ℕ)) → Type 0 → Verdict → Type 0
 IsVerdict None files shelf_failed v = v ≡ refused_words
 IsVerdict (Some (auction file)) files shelf_failed v = OnFile 101000000 files shelf_failed file IsAuctionVerdict v
 IsVerdict (Some (check rules)) files shelf_failed v = OnFile 1048576 files shelf_failed rules IsCheckVerdict v
+IsVerdict (Some (replay rules script)) files shelf_failed v =
+    OnFile 1048576 files shelf_failed rules (IsReplayVerdict (OnFile 101000000 files shelf_failed script)) v
 
 -- What is promised of a call: a verdict on what is asked for is delivered; the causes once more by the status; and no
 -- object's count of faults falls.

@@ -14,7 +14,7 @@ use rules_report::{write_fault, write_tables};
 use std::alloc::Global;
 
 /// How many bytes a rules file may have; one more is read, and makes it too long.
-const RULES_LIMIT: u64 = 1_048_576;
+pub(crate) const RULES_LIMIT: u64 = 1_048_576;
 
 // Prints the tables of the rules file of this name.
 pub(crate) fn run_check<F: Shelf, O: Sink, E: Sink>(
@@ -50,7 +50,7 @@ fn print_rules<O: Sink>(out: &mut O, rules: Rules) -> Status
 }
 
 // Writes why there are no rules to standard error, and answers 1 or 5, or 4 where that fails.
-fn tell_no_rules<E: Sink>(err: &mut E, fault: &RulesFault) -> Status
+pub(crate) fn tell_no_rules<E: Sink>(err: &mut E, fault: &RulesFault) -> Status
     ensures { let v = no_rules fault.now in Told E.contents E.faults v.err v.status err.old err.new result.0 }
 {
     match write_fault(err, fault) {

@@ -5,6 +5,7 @@ mod auction;
 mod check;
 mod command;
 mod program;
+mod replay;
 
 pub use command::file_words;
 pub use program::{Status, run_market, run_plain};

@@ -7,6 +7,7 @@ ghost use Rattle.market_top.specs.Verdict.{Told, unread};
 use crate::auction::run_auction;
 use crate::check::run_check;
 use crate::command::{Command, command_of};
+use crate::replay::run_replay;
 use mkt_io::{ReadFault, Shelf, Sink, WriteFault, write_all};
 use std::alloc::Global;
 
@@ -65,6 +66,9 @@ pub fn run_plain<F: Shelf, O: Sink, E: Sink>(
     match command_of(words) {
         Some(Command::Auction { file }) => run_auction(alloc, file, shelf, out, err),
         Some(Command::Check { rules }) => run_check(alloc, rules, shelf, out, err),
+        Some(Command::Replay { rules, script }) => {
+            run_replay(alloc, rules, script, shelf, out, err)
+        }
         None => tell(err, USAGE, Status::REFUSED_WORDS),
     }
 }

@@ -275,7 +275,7 @@ fn refused_words(rt: HostRuntime) -> Result<(), Fail> {
         &["auction", "-a"],
         &["auction", "a", "a"],
         &["Auction", "a"],
-        &["replay", "a", "a"],
+        &["run", "a", "a"],
         &["--help"],
     ];
     for words in cases {

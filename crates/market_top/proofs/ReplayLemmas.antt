@@ -1,0 +1,123 @@
+-- How the report of a script that is replayed is delivered.
+use Rattle.std.proofs.Common.{◌≡◌, ℕ, ◌⊎◌, ◌≤◌, inl, inr, List, [], length, take, Option, Result, Ok, Err, OnOk, OnErr, refl, sym, ap, subst, ◌∙◌, arith}
+use Rattle.std.proofs.lemmas.List.{take_all}
+use Rattle.std.specs.Io.KnownBytes.{Appends}
+use Rattle.mkt_io.specs.Faults.{Rises}
+use Rattle.mkt_io.specs.Sink.{AppendsPart}
+use Rattle.rules_file.specs.Faults.{Fails}
+use Rattle.rules_file.specs.Rules.{rules_of}
+use Rattle.rules_file.specs.declared.fault.RulesFault.{RulesFault}
+use Rattle.rules_file.specs.declared.fault.RulesFault.TheVariants as rules_faults
+use Rattle.rules_file.specs.declared.rules.Rules.{Rules}
+use Rattle.script_file.specs.Faults.{Fails as FailsScript}
+use Rattle.script_file.specs.Script.{script_of}
+use Rattle.script_file.specs.declared.fault.ScriptFault.{ScriptFault}
+use Rattle.script_file.specs.declared.fault.ScriptFault.TheVariants.{At, Memory}
+use Rattle.script_file.specs.declared.script.Script.{Script}
+use Rattle.run_report.specs.Report.{Run, report_text}
+use Rattle.run_report.specs.Reported.{Reports}
+use Rattle.run_report.specs.declared.ended.EndedIssue.{EndedIssue}
+use Rattle.run_report.specs.declared.ended.ReportFault.{ReportFault}
+use Rattle.script_run.specs.Run.{replayed}
+use Rattle.market_top.specs.Check.{OnRules, no_rules, refused_rules}
+use Rattle.market_top.specs.Replay.{IsReplayVerdict, IsReplayed, IsScriptVerdict, OnScript, cut_report, no_script, reported}
+use Rattle.market_top.specs.Verdict.{Delivered, IsRead, OnFile, Told, Verdict, no_memory}
+use Rattle.market_top.proofs.VerdictLemmas.{Appends-nothing, AppendsPart-nothing}
+
+module _ {O E : Type 0} (out : O → Option (List ℕ)) (out_faults : O → ℕ) (err : E → Option (List ℕ)) (err_faults : E → ℕ) (rules : Rules) (run : Run) (o o' : O) (count : out_faults o ≤ out_faults o') where
+  -- the report is written
+  pub Delivered-reported : (e : E) → Appends (out o) (out o') (report_text rules run) → Delivered out out_faults err err_faults (reported rules run) o e o' e 0
+  Delivered-reported e written = record { answer = inl (refl, written, Appends-nothing (err e)); out_count = count; err_count = omega arith }
+
+  -- the sink failed
+  pub Delivered-not_reported : (e : E) → Rises (out_faults o) (out_faults o') → AppendsPart (out o) (out o') (report_text rules run) → Delivered out out_faults err err_faults (reported rules run) o e o' e 4
+  Delivered-not_reported e failed part = record { answer = inr (refl, inl failed, part, AppendsPart-nothing (err e) []); out_count = count; err_count = omega arith }
+
+  -- there was no memory once a front part was written
+  pub Delivered-cut : (e e' : E) (answered written : ℕ) → Appends (out o) (out o') (take written (report_text rules run)) → Told err err_faults no_memory.err 5 e e' answered
+      → Delivered out out_faults err err_faults (cut_report rules run written) o e o' e' answered
+  Delivered-cut e e' answered written part told = record { answer = by told.answer; out_count = count; err_count = told.count }
+    where
+      front : List ℕ
+      front = take written (report_text rules run)
+
+      whole : AppendsPart (out o) (out o') (take written (report_text rules run))
+      whole =
+          let all : take (length (take written (report_text rules run))) (take written (report_text rules run)) ≡ take written (report_text rules run) = take_all _ (take written (report_text rules run)) (omega arith) in
+          (length (take written (report_text rules run)), omega arith, subst (λ (text : List ℕ). Appends (out o) (out o') text) (sym all) part)
+
+      by : ((answered ≡ 5) × Appends (err e) (err e') no_memory.err) ⊎ ((answered ≡ 4) × Rises (err_faults e) (err_faults e') × AppendsPart (err e) (err e') no_memory.err)
+          → ((answered ≡ 5) × Appends (out o) (out o') (take written (report_text rules run)) × Appends (err e) (err e') no_memory.err)
+          ⊎ ((answered ≡ 4) × (Rises (out_faults o) (out_faults o') ⊎ Rises (err_faults e) (err_faults e')) × AppendsPart (out o) (out o') (take written (report_text rules run)) × AppendsPart (err e) (err e') no_memory.err)
+      by (inl all) = inl (all.0, part, all.1)
+      by (inr some) = inr (some.0, inr some.1, whole, some.2)
+
+-- nothing goes to standard output where there is no script
+pub no-script-out : (fault : ScriptFault) → (no_script fault).out ≡ []
+no-script-out (At number fault) = refl
+no-script-out Memory = refl
+
+-- a script that is refused is told its first fault, or there is no memory
+pub no-script-is : (files : Option (List ℕ → Option (List ℕ))) (shelf_failed : Type 0) (name : List ℕ) (rules : Rules) (fault : ScriptFault) (bytes : List ℕ)
+    → IsRead 101000000 files name bytes → FailsScript fault (script_of rules bytes) → OnFile 101000000 files shelf_failed name (IsScriptVerdict rules) (no_script fault)
+no-script-is files shelf_failed name rules (At number fault) bytes read fails =
+    let P : Result Script ScriptFault → Type 0 = λ said. OnScript said (IsReplayed rules) (no_script (At number fault)) in
+    inr (inr (bytes, read, subst P (sym fails) refl))
+no-script-is files shelf_failed name rules Memory bytes read fails = inr (inl refl)
+
+-- a script that is replayed
+pub script-is : (files : Option (List ℕ → Option (List ℕ))) (shelf_failed : Type 0) (name : List ℕ) (rules : Rules) (script : Script) (bytes : List ℕ) (v : Verdict)
+    → IsRead 101000000 files name bytes → script_of rules bytes ≡ Ok script → IsReplayed rules script v → OnFile 101000000 files shelf_failed name (IsScriptVerdict rules) v
+script-is files shelf_failed name rules script bytes v read said is =
+    let P : Result Script ScriptFault → Type 0 = λ read. OnScript read (IsReplayed rules) v in
+    inr (inr (bytes, read, subst P (sym said) is))
+
+module _ (files : Option (List ℕ → Option (List ℕ))) (shelf_failed : Type 0) (rules_name : List ℕ) (on_script : (List ℕ → Verdict → Type 0) → Verdict → Type 0) (bytes : List ℕ) (read : IsRead 1048576 files rules_name bytes) where
+  -- the rules are refused, or there is no memory for them
+  pub no-rules-replayed : (fault : RulesFault) → Fails fault (rules_of bytes) → OnFile 1048576 files shelf_failed rules_name (IsReplayVerdict on_script) (no_rules fault)
+  no-rules-replayed rules_faults.Memory fails = inr (inl refl)
+  no-rules-replayed fault fails = inr (inr (bytes, read, refused fault fails))
+    where
+      refused : (f : RulesFault) → rules_of bytes ≡ Err f → IsReplayVerdict on_script bytes (refused_rules f)
+      refused f said =
+          let P : Result Rules RulesFault → Type 0 = λ read. OnRules read (λ rules. on_script (IsScriptVerdict rules)) (refused_rules f) in
+          subst P (sym said) refl
+
+  -- the rules are read, and the script under them
+  pub rules-replayed : (rules : Rules) (v : Verdict) → rules_of bytes ≡ Ok rules → on_script (IsScriptVerdict rules) v → OnFile 1048576 files shelf_failed rules_name (IsReplayVerdict on_script) v
+  rules-replayed rules v said is =
+      let P : Result Rules RulesFault → Type 0 = λ read. OnRules read (λ rules. on_script (IsScriptVerdict rules)) v in
+      inr (inr (bytes, read, subst P (sym said) is))
+
+-- what holds of a file that is read later holds from the call's begin on
+pub OnFile-since : (limit : ℕ) (files now : Option (List ℕ → Option (List ℕ))) (later failed : Type 0) (name : List ℕ) (on : List ℕ → Verdict → Type 0) (v : Verdict) → now ≡ files → (later → failed)
+    → OnFile limit now later name on v → OnFile limit files failed name on v
+OnFile-since limit files now later failed name on v same since is = by (subst (λ (known : Option (List ℕ → Option (List ℕ))). OnFile limit known later name on v) same is)
+  where
+    by : OnFile limit files later name on v → OnFile limit files failed name on v
+    by (inl read) = inl (read.0, since read.1)
+    by (inr (inl memory)) = inr (inl memory)
+    by (inr (inr said)) = inr (inr said)
+
+pub Rises-since : (from old new : ℕ) → from ≤ old → Rises old new → Rises from new
+Rises-since from old new before (inl more) = inl (omega arith)
+Rises-since from old new before (inr last) = inr last
+
+-- the issues that were replayed, with nothing shown, are the run
+pub run-same : (rules : Rules) (script : Script) (issues : List EndedIssue) → issues ≡ (replayed rules script).issues → record { issues = issues; shows = [] } ≡ replayed rules script
+unfolding replayed
+run-same rules script issues is = ap (λ (es : List EndedIssue). let run : Run = record { issues = es; shows = [] } in run) is
+
+-- what is said of the report of the issues that are lent is said of the run's
+pub Reports-run : {O : Type 0} (contents : O → Option (List ℕ)) (faults : O → ℕ) (old new : O) (result : Result (Unit {0}) ReportFault) (rules : Rules) (script : Script) (lent issues : List EndedIssue)
+    → lent ≡ issues → issues ≡ (replayed rules script).issues → Reports contents faults old (report_text rules (record { issues = lent; shows = [] })) new result
+    → Reports contents faults old (report_text rules (replayed rules script)) new result
+Reports-run contents faults old new result rules script lent issues same is told =
+    subst (λ (run : Run). Reports contents faults old (report_text rules run) new result) (run-same rules script lent (same ∙ is)) told
+
+-- what holds at a good end, and at a bad one
+pub at-Ok : {T E : Type 0} (result : Result T E) (x : T) (P : Type 0) → result ≡ Ok x → OnOk result P → P
+at-Ok {T} {E} result x P is holds = subst (λ (r : Result T E). OnOk r P) is holds
+
+pub at-Err : {T E : Type 0} (result : Result T E) (fault : E) (P : Type 0) → result ≡ Err fault → OnErr result P → P
+at-Err {T} {E} result fault P is holds = subst (λ (r : Result T E). OnErr r P) is holds

@@ -1,0 +1,7 @@
+mod Examples
+pub mod FrontLemmas
+pub mod IssueLemmas
+pub mod JournalLemmas
+pub mod NodeLemmas
+pub mod ReportLemmas
+pub mod ShownLemmas

@@ -1,0 +1,5 @@
+use Rattle.mkt_io.specs.Printed.{◌and_then◌, ended}
+use Rattle.run_report.proofs.report.print_begin.Goals as goal
+
+pub returns : goal.returns
+returns g c = ended (c.word.ensures and_then c.word-2.ensures) c.line_end.ensures

@@ -1,0 +1,4 @@
+pub mod Issue
+pub mod Report
+pub mod Reported
+pub mod Watched

@@ -1,0 +1,4 @@
+mod Examples
+pub mod GrownLemmas
+pub mod JournalLemmas
+pub mod ReplayLemmas
