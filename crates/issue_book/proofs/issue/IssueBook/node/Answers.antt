@@ -11,6 +11,6 @@ returns c =
     let within : c.from.result < length nodes = omega (arith, c.n.ensures.a_node, c.from.ensures, c.self.invariant.nodes) in
     record {
       state = subst (λ v. slice_get v.state.nodes c.args.node ≡ Some (get_or nodes c.from.result Lost)) c.self.view_is
-        (ap (λ n. slice_get nodes n) at ∙ slice_get-get_or nodes c.from.result Lost within);
+          (ap (λ n. slice_get nodes n) at ∙ slice_get-get_or nodes c.from.result Lost within);
       three = subst (λ v. length v.state.nodes ≡ 3) c.self.view_is c.self.invariant.nodes;
     }
