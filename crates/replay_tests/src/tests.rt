@@ -1,3 +1,4 @@
 mod days;
 mod refusals;
 mod replay;
+mod table;
