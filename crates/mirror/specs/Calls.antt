@@ -1,8 +1,9 @@
 -- What a call on a mirror does to its nodes.
-use Rattle.std.specs.Prelude.{◌≡◌, ◌≢◌, ℕ, ◌+◌, ◌-◌, ◌≤◌, Bool, true, false, List, max, length, nat_lt, if◌then◌else◌, slice_index_or}
+use Rattle.std.specs.Prelude.{◌≡◌, ◌≢◌, ℕ, ◌+◌, ◌-◌, ◌≤◌, Bool, true, false, List, max, length, if◌then◌else◌, slice_index_or}
 use Rattle.mkt_base.specs.declared.journal.NodeState.{NodeState}
 use Rattle.mkt_base.specs.declared.journal.NodeState.TheVariants.{Lost, Joining, Synchronised}
 use Rattle.mkt_io.specs.Faults.{Rises}
+pub use Rattle.node_rules.specs.Nodes.{caught, reached}
 use Rattle.mirror.specs.Replicas.{Replica, Replicas}
 
 -- what every call keeps of a node: its label and its room; its count never falls, and the most that it has held is no more
@@ -54,16 +55,6 @@ pub record HasRoom (records : ℕ) (m : Replicas) : Type 0 where
   pub first : m.first.state ≡ Synchronised → records ≤ m.first.spare
   pub second : m.second.state ≡ Synchronised → records ≤ m.second.spare
   pub third : m.third.state ≡ Synchronised → records ≤ m.third.spare
-
--- the state of a node that has copied up to this place, of a journal of this length
-abbrev pub reached : ℕ → ℕ → NodeState
-reached entries at = if nat_lt at entries then Joining at else Synchronised
-
--- the state of a joining node after a piece of this many records; no other node catches up
-abbrev pub caught : ℕ → ℕ → NodeState → NodeState
-caught limit entries (Joining n) = reached entries (n + limit)
-caught limit entries Lost = Lost
-caught limit entries Synchronised = Synchronised
 
 -- how many records a node in a state lacks
 abbrev pub lacks : ℕ → NodeState → ℕ

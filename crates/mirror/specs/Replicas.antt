@@ -1,8 +1,9 @@
 -- What is seen of a mirror: its three nodes, and the length of the journal.
-use Rattle.std.specs.Prelude.{ℕ, zero, suc, ◌+◌, Bool, true, false, not, ◌&&◌, List, [], length, slice_index_or}
+use Rattle.std.specs.Prelude.{ℕ, zero, suc, ◌+◌, Bool, not, ◌&&◌, List, [], ◌∷◌, length}
 use Rattle.mkt_base.specs.declared.journal.NodeState.{NodeState}
-use Rattle.mkt_base.specs.declared.journal.NodeState.TheVariants.{Lost, Joining, Synchronised}
+use Rattle.mkt_base.specs.declared.journal.NodeState.TheVariants.{Lost}
 use Rattle.memory_node.specs.declared.node.Label.{Label}
+pub use Rattle.node_rules.specs.Nodes.{is_lost, state_at}
 
 -- a node of the mirror: its state, and what the node itself tells
 pub record Replica : Type 0 where
@@ -45,15 +46,9 @@ with_state k s m = with_node k (record (node_at k m) { state = s }) m
 abbrev pub wiped : Replica → Replica
 wiped r = record r { state = Lost; contents = []; spare = length r.contents + r.spare }
 
--- the state of a number
-abbrev pub state_at : List NodeState → ℕ → NodeState
-state_at states k = slice_index_or states k Lost
-
--- a node in this state is lost
-abbrev pub is_lost : NodeState → Bool
-is_lost Lost = true
-is_lost (Joining n) = false
-is_lost Synchronised = false
+-- the states of the nodes
+abbrev pub states : Replicas → List NodeState
+states m = m.first.state ∷ m.second.state ∷ m.third.state ∷ []
 
 -- a node was lost between these states
 abbrev pub fell : NodeState → NodeState → Bool

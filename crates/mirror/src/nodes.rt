@@ -5,7 +5,7 @@ ghost use Rattle.record_codec.specs.Entry.{spelling};
 ghost use Rattle.mirror.specs.Calls.{AllFell, BecameAll, HasRoom, IsJoining, KeepsAll, caught, is_named, lacks};
 ghost use Rattle.mirror.specs.Members.{CameAll, WasPut};
 ghost use Rattle.mirror.specs.Mirrored.{AreMirrored, HoldsAs, Mirrors, MirrorsSome};
-ghost use Rattle.mirror.specs.Replicas.{fell, node_at, replica, state_at, wiped, with_node, with_state};
+ghost use Rattle.mirror.specs.Replicas.{fell, node_at, replica, state_at, states, wiped, with_node, with_state};
 
 use crate::copying::fill;
 use crate::member::Member;
@@ -136,7 +136,8 @@ impl<N: MemoryNode> Mirror<N> {
 
     /// The state of a node.
     pub fn state(&self, k: NodeNo) -> NodeState
-        ensures { result ≡ (node_at k self.now).state }
+        ensures value { result ≡ (node_at k self.now).state }
+        ensures mirrored { MirrorsSome self.now }
     {
         match k.n() {
             0 => self.first.state,
@@ -242,9 +243,10 @@ impl<N: MemoryNode> Mirror<N> {
         }
     }
 
-    // The states of the nodes.
-    fn states(&self) -> [NodeState; 3]
-        ensures { result ≡ self.now.first.state ∷ self.now.second.state ∷ self.now.third.state ∷ [] }
+    /// The states of the nodes 0, 1 and 2.
+    pub fn states(&self) -> [NodeState; 3]
+        ensures value { result ≡ states self.now }
+        ensures mirrored { MirrorsSome self.now }
     {
         [self.first.state, self.second.state, self.third.state]
     }
