@@ -5,4 +5,4 @@ mod certificate;
 mod lines;
 
 pub use certificate::{print_certificate, write_certificate};
-pub use lines::{print_outcome, print_rejected};
+pub use lines::{print_outcome, print_price, print_rejected};

@@ -82,8 +82,8 @@ fn print_sums<O: Sink>(printer: &mut Printer<'_, O>, sums: &Sums)
     printer.number(sums.below);
 }
 
-// A price, or a dash where there is none.
-fn print_price<O: Sink>(printer: &mut Printer<'_, O>, price: Option<Price>)
+/// Prints a price, in tenths of a yen, or a dash where there is none.
+pub fn print_price<O: Sink>(printer: &mut Printer<'_, O>, price: Option<Price>)
     ensures { PrintsWords O.contents O.faults printer.old printer.new (price_word price ∷ []) }
 {
     match price {

@@ -231,11 +231,12 @@ impl IssueBook {
         watch.quote(quote);
     }
 
-    /// Counts an entry.
-    pub fn count_entry(&mut self)
+    /// Counts an entry, which leaves the nodes in these states.
+    pub fn count_entry(&mut self, nodes: [NodeState; 3])
         requires { self.old.state.entries < 100000000 }
-        ensures { self.new ≡ in_state (record self.old.state { entries = self.old.state.entries + 1 }) self.old }
+        ensures { self.new ≡ in_state (record self.old.state { nodes = nodes; entries = self.old.state.entries + 1 }) self.old }
     {
+        self.nodes = nodes;
         self.entries += 1;
     }
 
@@ -244,6 +245,14 @@ impl IssueBook {
         ensures { result ≡ self.now.state.entries }
     {
         self.entries
+    }
+
+    /// The states of the nodes.
+    pub fn nodes(&self) -> [NodeState; 3]
+        ensures states { result ≡ self.now.state.nodes }
+        ensures three { length self.now.state.nodes ≡ 3 }
+    {
+        self.nodes
     }
 
     /// The state of a node, of which there are three.

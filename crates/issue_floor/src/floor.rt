@@ -221,12 +221,12 @@ impl Floor {
         quoting::serve(&mut self.book, at, &quote, watch);
     }
 
-    /// Counts an entry, of at most 100,000,000.
-    pub fn count_entry(&mut self)
+    /// Counts an entry, of at most 100,000,000, which leaves the memory nodes in these states.
+    pub fn count_entry(&mut self, nodes: [NodeState; 3])
         requires { self.old.state.entries < 100000000 }
-        ensures { self.new ≡ in_state (record self.old.state { entries = self.old.state.entries + 1 }) self.old }
+        ensures { self.new ≡ in_state (record self.old.state { nodes = nodes; entries = self.old.state.entries + 1 }) self.old }
     {
-        self.book.count_entry();
+        self.book.count_entry(nodes);
         self.book.stands();
     }
 
@@ -235,6 +235,14 @@ impl Floor {
         ensures { result ≡ self.now.state.entries }
     {
         self.book.entries()
+    }
+
+    /// The states of the memory nodes.
+    pub fn nodes(&self) -> [NodeState; 3]
+        ensures states { result ≡ self.now.state.nodes }
+        ensures three { length self.now.state.nodes ≡ 3 }
+    {
+        self.book.nodes()
     }
 
     /// The state of a memory node.

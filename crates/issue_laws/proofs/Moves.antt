@@ -38,6 +38,8 @@ use Rattle.issue_book.specs.IssueView.{AreTerms}
 use Rattle.issue_book.specs.Quoting.{Tried, answer_at, due_by, fill, held, is_trading, moved, new_special, presses, serve, settle_at, show_quote, tell_auction, tried_by, try_if_shown, try_quote, try_shown}
 use Rattle.issue_book.specs.Sessions.{around_last, at_boundary, close_fills, close_margin, close_trading, close_window, end_quote, end_shown, enter_phase, held_close, is_allotted, open_trading, quote_pressed, step_at}
 use Rattle.issue_book.specs.State.{Move, State, Terms, stay, ◌then◌}
+use Rattle.node_rules.specs.Nodes.{is_lost, state_at}
+use Rattle.issue_machine.proofs.MoveLemmas.{of-either}
 use Rattle.issue_machine.specs.Answering.{Replied, accepted, bad_price, bad_qty, cancel_named, change_named, change_to, changed, closed, first_reason, not_yours, order_of, refused, take_cancel, take_change, take_order, unknown, unless}
 use Rattle.issue_machine.specs.Clock.{Due, AllDone, BoundaryDue, QuoteDue, due_steps, moment_reply, next_due, set_clock, steps_to, take_clock}
 use Rattle.issue_machine.specs.Step.{event_step, step}
@@ -303,8 +305,8 @@ module _ (laws : LowerLaws) (t : Terms) (is : AreTerms t) (traded : List Trade �
     fair-event (events.Change participant target kind qty) = fair-change participant target kind qty
     fair-event (events.Cancel participant target) = fair-cancel participant target
     fair-event (events.Clock at) = fair-clock at
-    fair-event (events.Crash node) = balanced-stay s
-    fair-event (events.Rejoin node) = balanced-stay s
+    fair-event (events.Crash node) = of-either (λ (r : Replied). IsFair s.orders s.orders r) (is_lost (state_at s.nodes node)) _ _ (balanced-stay s) (balanced-stay s)
+    fair-event (events.Rejoin node) = of-either (λ (r : Replied). IsFair s.orders s.orders r) (is_lost (state_at s.nodes node)) _ _ (balanced-stay s) (balanced-stay s)
 
     -- what a step trades and leaves is what its entry finds
     pub step-balanced : traded (trades_in (step t e s).outputs) + left (step t e s).state.orders ≡ left (brought t e s)

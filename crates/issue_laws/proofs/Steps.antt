@@ -16,10 +16,13 @@ use Rattle.issue_book.specs.IssueView.{AreTerms, IsPriceOf}
 use Rattle.issue_book.specs.Quoting.{serve}
 use Rattle.issue_book.specs.Sessions.{at_boundary, step_at}
 use Rattle.issue_book.specs.State.{Move, State, Terms, start, stay}
+use Rattle.node_rules.specs.Nodes.{is_lost, state_at}
+use Rattle.mkt_base.specs.declared.journal.NodeState.{NodeState}
 use Rattle.issue_machine.specs.Answering.{Replied, refused}
 use Rattle.issue_machine.specs.Clock.{Due, AllDone, BoundaryDue, DueSteps, QuoteDue, due_steps, moment_reply, next_due, one_more, set_clock, steps_to, take_clock}
 use Rattle.issue_machine.specs.Journal.{AreEntries, IsEventOf, own_after}
-use Rattle.issue_machine.specs.Step.{counted, event_step, state_from, step}
+use Rattle.issue_machine.specs.Step.{counted, event_step, nodes_behind, state_from, step}
+use Rattle.issue_machine.proofs.MoveLemmas.{of-either}
 use Rattle.issue_laws.specs.Brought.{trades_in}
 use Rattle.issue_laws.specs.Lower.{LowerLaws}
 use Rattle.issue_laws.proofs.Standing.{ArePriced, IsGood, Stands, StaysCalm, fine-stay, good-then}
@@ -96,8 +99,12 @@ module _ (laws : LowerLaws) (t : Terms) (is : AreTerms t) where
   good-event e (events.Change participant target kind qty) s here sound = good-change laws t is e s here sound.stands sound.calm participant target kind qty
   good-event e (events.Cancel participant target) s here sound = good-cancel laws t is e s here sound.stands sound.calm participant target
   good-event e (events.Clock at) s here sound = good-clock (s.entries + 1) at s (stands-more t s.entries s sound.stands) sound.calm
-  good-event e (events.Crash node) s here sound = record { fine = fine-stay t (s.entries + 1) s (stands-more t s.entries s sound.stands); calm = sound.calm }
-  good-event e (events.Rejoin node) s here sound = record { fine = fine-stay t (s.entries + 1) s (stands-more t s.entries s sound.stands); calm = sound.calm }
+  good-event e (events.Crash node) s here sound =
+      let still : IsGood t (s.entries + 1) s (stay s) = record { fine = fine-stay t (s.entries + 1) s (stands-more t s.entries s sound.stands); calm = sound.calm } in
+      of-either (λ (r : Replied). IsGood t (s.entries + 1) s r.move) (is_lost (state_at s.nodes node)) _ _ still still
+  good-event e (events.Rejoin node) s here sound =
+      let still : IsGood t (s.entries + 1) s (stay s) = record { fine = fine-stay t (s.entries + 1) s (stands-more t s.entries s sound.stands); calm = sound.calm } in
+      of-either (λ (r : Replied). IsGood t (s.entries + 1) s r.move) (is_lost (state_at s.nodes node)) _ _ still still
 
   -- a step from a sound state leads to one, trades at prices of the grid, and is counted
   pub record IsStep (e : Entry) (s : State) : Type 0 where
@@ -105,12 +112,12 @@ module _ (laws : LowerLaws) (t : Terms) (is : AreTerms t) where
     pub priced : ArePriced t (trades_in (step t e s).outputs)
     pub entries : (step t e s).state.entries ≡ s.entries + 1
 
-  sound-counted : (n : ℕ) (s : State) (r : Replied) → n ≡ s.entries + 1 → IsGood t n s r.move → IsSound t (counted r).state
-  sound-counted n s r here good =
-      let same : n ≡ (counted r).state.entries = here ∙ ap (λ k. k + 1) (sym good.fine.entries) in
+  sound-counted : (n : ℕ) (s : State) (nodes : List NodeState) (r : Replied) → n ≡ s.entries + 1 → IsGood t n s r.move → IsSound t (counted nodes r).state
+  sound-counted n s nodes r here good =
+      let same : n ≡ (counted nodes r).state.entries = here ∙ ap (λ k. k + 1) (sym good.fine.entries) in
       let stands = good.fine.stands in
       record {
-        stands = subst (λ k. Stands t k (counted r).state) same (record { by_place = stands.by_place; below = stands.below; some = stands.some; spots = stands.spots; last = stands.last });
+        stands = subst (λ k. Stands t k (counted nodes r).state) same (record { by_place = stands.by_place; below = stands.below; some = stands.some; spots = stands.spots; last = stands.last });
         calm = good.calm;
       }
 
@@ -118,7 +125,7 @@ module _ (laws : LowerLaws) (t : Terms) (is : AreTerms t) where
   unfolding step
   step-is e s here sound =
       let good = good-event e e.event s here sound in
-      record { sound = sound-counted (s.entries + 1) s (event_step t e e.event s) refl good; priced = good.fine.priced; entries = ap (λ k. k + 1) good.fine.entries }
+      record { sound = sound-counted (s.entries + 1) s (nodes_behind e s) (event_step t e e.event s) refl good; priced = good.fine.priced; entries = ap (λ k. k + 1) good.fine.entries }
 
   -- ---- journals
 

@@ -1,5 +1,5 @@
 -- What an entry keeps of the book, and what holds of a machine after it.
-use Rattle.std.proofs.Common.{◌≡◌, ◌≢◌, ℕ, zero, suc, ◌+◌, ◌<◌, ◌≤◌, Bool, true, false, ltb, List, [], ◌∷◌, length, get_or, set, All, Some, inl, inr, refl, sym, ap, subst, ◌∙◌, arith, get_or-set_other, get_or-set_same}
+use Rattle.std.proofs.Common.{◌≡◌, ◌≢◌, ℕ, zero, suc, ◌+◌, ◌==◌, ◌<◌, ◌≤◌, Bool, true, false, ltb, List, [], ◌∷◌, length, get_or, set, All, Option, None, Some, inl, inr, refl, sym, ap, subst, ◌∙◌, arith, get_or-set_other, get_or-set_same}
 use Rattle.std.specs.List.{AllByRecursion, slice_get}
 use Rattle.std.proofs.Math.ListN.{length-set}
 use Rattle.std.proofs.lemmas.Bool.{cases_eq, false≢true}
@@ -8,10 +8,13 @@ use Rattle.std.proofs.lemmas.List.Elements.{All-get_or, All-nil, All-replicate, 
 use Rattle.mkt_base.specs.declared.event.Entry.{Entry}
 use Rattle.mkt_base.specs.declared.event.Event.{Event}
 use Rattle.mkt_base.specs.declared.event.Event.TheVariants as events
+use Rattle.mkt_base.specs.declared.journal.NodeState.{NodeState}
+use Rattle.mkt_base.specs.declared.journal.NodeState.TheVariants.{Lost, Joining}
 use Rattle.mkt_base.specs.declared.order.Order.{Order}
 use Rattle.mkt_base.specs.declared.order.Side.{Side}
 use Rattle.mkt_base.specs.declared.order.Spot.{Spot}
 use Rattle.mkt_base.specs.declared.units.Participant.{Participant}
+use Rattle.node_rules.specs.Nodes.{after_event, all_caught, caught, crashed, is_lost, joined, joins, node_step, piece, state_at}
 use Rattle.book_law.specs.BookView.{is_of}
 use Rattle.book_law.proofs.Pairs.{Pairs, pairs-from_AllPairs, weaken}
 use Rattle.session_phase.specs.declared.session.Boundary.{Boundary}
@@ -27,7 +30,7 @@ use Rattle.issue_machine.specs.Answering.{Replied, order_of}
 use Rattle.issue_machine.specs.Clock.{AllDone, BoundaryDue, Due, QuoteDue, due_steps, next_due, take_clock}
 use Rattle.issue_machine.specs.Journal.{MachineView, MayStep, own_after, stepped, no_own}
 use Rattle.issue_machine.specs.Standing.{AwaitsFinish, IsMachine, IsOlder, MayTake}
-use Rattle.issue_machine.specs.Step.{event_step, step}
+use Rattle.issue_machine.specs.Step.{event_step, nodes_behind, step}
 use Rattle.issue_machine.proofs.DueLemmas.{step_by}
 use Rattle.issue_machine.proofs.MoveLemmas.{Keeps, KeepsBook, OfEach, WasBoundary, WasServed, book-of, boundary-keeps, of-each, of-either, served-keeps, take_cancel-keeps, take_change-keeps, take_order-keeps}
 use Rattle.issue_machine.proofs.OrderLemmas.{is-callers, is-own}
@@ -76,8 +79,10 @@ module _ (P : Order → Type 0) (keyed : (o : Order) (left : ℕ) → P o → P 
     event-keeps t (events.Change participant target kind qty) s = book-of P keyed s _ (take_change-keeps P keyed e anew t participant target kind qty s)
     event-keeps t (events.Cancel participant target) s = book-of P keyed s _ (take_cancel-keeps P keyed e anew t participant target s)
     event-keeps t (events.Clock at) s = clock-keeps t at s
-    event-keeps t (events.Crash node) s = book-same s
-    event-keeps t (events.Rejoin node) s = book-same s
+    event-keeps t (events.Crash node) s =
+        of-either (λ (r : Replied). KeepsBook P keyed s r.move.state) (is_lost (state_at s.nodes node)) _ _ (book-same s) (book-same s)
+    event-keeps t (events.Rejoin node) s =
+        of-either (λ (r : Replied). KeepsBook P keyed s r.move.state) (is_lost (state_at s.nodes node)) _ _ (book-same s) (book-same s)
 
 -- ---- orders of earlier entries
 
@@ -179,15 +184,15 @@ own-few m e is may =
 abbrev pub after_event_of : MachineView → Entry → State
 after_event_of m e = (event_step m.issue.terms e e.event m.issue.state).move.state
 
-abbrev pub counting : State → State
-counting s = record s { entries = s.entries + 1 }
+abbrev pub counting : List NodeState → State → State
+counting nodes s = record s { nodes = nodes; entries = s.entries + 1 }
 
 abbrev pub machine_of : MachineView → IssueView → ℕ → Entry → MachineView
 machine_of m new i e = record { issue = new; participants = m.participants; next_own = set m.next_own i (e.own + 1) }
 
 machine-counted : (m : MachineView) (e : Entry) → IsMachine m → MayStep m e → AwaitsFinish m.issue.terms.sessions (after_event_of m e).now (after_event_of m e).phase
-    → IsMachine (machine_of m (in_state (counting (after_event_of m e)) m.issue) e.caller.0 e)
-machine-counted m e is may finish =
+    → (nodes : List NodeState) → length nodes ≡ 3 → IsMachine (machine_of m (in_state (counting nodes (after_event_of m e)) m.issue) e.caller.0 e)
+machine-counted m e is may finish nodes three =
     let n : ℕ = m.issue.state.entries in
     let u : State = after_event_of m e in
     let same : u.entries ≡ n = entries-after m.issue.terms e e.event m.issue.state in
@@ -202,27 +207,61 @@ machine-counted m e is may finish =
       older = subst (λ (k : ℕ). All (IsOlder (k + 1) (own_after m.next_own e)) u.orders) (sym same)
           (older-after n m.next_own e may.entry.place may.entry.own m.issue.terms e.event m.issue.state is.older);
       finish = finish;
-      nodes = ap length (nodes-after m.issue.terms e e.event m.issue.state) ∙ is.nodes;
+      nodes = three;
     }
 
 -- what the calls in a row leave
-counted-issue : (m : MachineView) (e : Entry) (mid new : IssueView) → mid ≡ in_state (after_event_of m e) m.issue → new ≡ in_state (counting mid.state) mid
-    → new ≡ in_state (counting (after_event_of m e)) m.issue
-counted-issue m e mid new was is = is ∙ ap (λ (v : IssueView). in_state (counting v.state) v) was
+counted-issue : (m : MachineView) (e : Entry) (mid new : IssueView) (nodes : List NodeState) → mid ≡ in_state (after_event_of m e) m.issue → new ≡ in_state (counting nodes mid.state) mid
+    → new ≡ in_state (counting nodes (after_event_of m e)) m.issue
+counted-issue m e mid new nodes was is = is ∙ ap (λ (v : IssueView). in_state (counting nodes v.state) v) was
 
-pub machine-after : (m : MachineView) (e : Entry) (mid new : IssueView) (i : ℕ) → IsMachine m → MayStep m e → i ≡ e.caller.0 → mid ≡ in_state (after_event_of m e) m.issue
-    → new ≡ in_state (counting mid.state) mid → AwaitsFinish m.issue.terms.sessions mid.state.now mid.state.phase → IsMachine (machine_of m new i e)
-machine-after m e mid new i is may same was now finish =
+pub machine-after : (m : MachineView) (e : Entry) (mid new : IssueView) (nodes : List NodeState) (i : ℕ) → IsMachine m → MayStep m e → i ≡ e.caller.0 → length nodes ≡ 3
+    → mid ≡ in_state (after_event_of m e) m.issue → new ≡ in_state (counting nodes mid.state) mid → AwaitsFinish m.issue.terms.sessions mid.state.now mid.state.phase
+    → IsMachine (machine_of m new i e)
+machine-after m e mid new nodes i is may same three was now finish =
     let ends : AwaitsFinish m.issue.terms.sessions (after_event_of m e).now (after_event_of m e).phase =
     subst (λ (v : IssueView). AwaitsFinish m.issue.terms.sessions v.state.now v.state.phase) was finish in
     subst (λ (k : ℕ). IsMachine (machine_of m new k e)) (sym same)
-    (subst (λ (v : IssueView). IsMachine (machine_of m v e.caller.0 e)) (sym (counted-issue m e mid new was now)) (machine-counted m e is may ends))
+    (subst (λ (v : IssueView). IsMachine (machine_of m v e.caller.0 e)) (sym (counted-issue m e mid new nodes was now)) (machine-counted m e is may ends nodes three))
 
-pub stepped-is : (m : MachineView) (e : Entry) (mid new : IssueView) (i : ℕ) → i ≡ e.caller.0 → mid ≡ in_state (after_event_of m e) m.issue → new ≡ in_state (counting mid.state) mid
-    → machine_of m new i e ≡ stepped m e
+pub stepped-is : (m : MachineView) (e : Entry) (mid new : IssueView) (nodes : List NodeState) (i : ℕ) → i ≡ e.caller.0 → nodes ≡ nodes_behind e m.issue.state
+    → mid ≡ in_state (after_event_of m e) m.issue → new ≡ in_state (counting nodes mid.state) mid → machine_of m new i e ≡ stepped m e
 unfolding step
-stepped-is m e mid new i same was now =
-    ap (λ (k : ℕ). machine_of m new k e) same ∙ ap (λ (v : IssueView). machine_of m v e.caller.0 e) (counted-issue m e mid new was now)
+stepped-is m e mid new nodes i same behind was now =
+    ap (λ (k : ℕ). machine_of m new k e) same ∙ ap (λ (v : IssueView). machine_of m v e.caller.0 e) (counted-issue m e mid new nodes was now)
+    ∙ ap (λ (ns : List NodeState). machine_of m (in_state (counting ns (after_event_of m e)) m.issue) e.caller.0 e) behind
+
+-- there are three nodes after a step where there were before it
+length-crashed : (event : Event) (nodes : List NodeState) → length nodes ≡ 3 → length (crashed event nodes) ≡ 3
+length-crashed (events.Order participant side kind qty) nodes three = three
+length-crashed (events.Change participant target kind qty) nodes three = three
+length-crashed (events.Cancel participant target) nodes three = three
+length-crashed (events.Clock at) nodes three = three
+length-crashed (events.Crash node) nodes three = length-set nodes node Lost ∙ three
+length-crashed (events.Rejoin node) nodes three = three
+
+length-joined : (n : ℕ) (node : Option ℕ) (nodes : List NodeState) → length nodes ≡ 3 → length (joined n node nodes) ≡ 3
+length-joined n None nodes three = three
+length-joined n (Some k) nodes three = length-set nodes k (caught piece n (Joining 0)) ∙ three
+
+length-event : (event : Event) (n : ℕ) (nodes : List NodeState) → length nodes ≡ 3 → length (after_event event n nodes) ≡ 3
+unfolding after_event
+length-event event n nodes three = length-joined (n + 1) (joins event nodes) (crashed event nodes) (length-crashed event nodes three)
+
+three-caught : (event : Event) (n : ℕ) (nodes : List NodeState) → length (all_caught event n nodes) ≡ 3
+unfolding all_caught
+three-caught event n nodes = refl
+
+pub length-node_step : (n caller : ℕ) (event : Event) (nodes : List NodeState) → length nodes ≡ 3 → length (node_step n caller event nodes) ≡ 3
+unfolding node_step
+length-node_step n caller event nodes three =
+    of-either (λ (ns : List NodeState). length ns ≡ 3) (caller == 0) _ _ (length-event event n nodes three) (length-event event n (all_caught event n nodes) (three-caught event n nodes))
+
+-- the nodes that were computed from what the floor told are those of the rules
+pub nodes-computed : (s : State) (e : Entry) (entries : ℕ) (nodes result : List NodeState) → entries ≡ s.entries → nodes ≡ s.nodes
+    → result ≡ node_step entries e.caller.0 e.event nodes → result ≡ nodes_behind e s
+nodes-computed s e entries nodes result at are is =
+    is ∙ ap (λ (n : ℕ). node_step n e.caller.0 e.event nodes) at ∙ ap (λ (ns : List NodeState). node_step s.entries e.caller.0 e.event ns) are
 
 pub entries-few : (m : MachineView) (e : Entry) (mid : IssueView) → IsMachine m → MayStep m e → mid ≡ in_state (after_event_of m e) m.issue → mid.state.entries < 100000000
 entries-few m e mid is may was =

@@ -5,3 +5,4 @@ pub mod MoveLemmas
 pub mod DueLemmas
 pub mod AdvanceLemmas
 pub mod EventLemmas
+pub mod HistoryLemmas

@@ -10,14 +10,14 @@ use Rattle.issue_book.specs.IssueView.{IssueView, in_state, terms_of}
 use Rattle.issue_book.specs.State.{start}
 use Rattle.issue_machine.specs.Step.{step}
 
--- an event whose participant, where it has one, is numbered below so many; node events come later
+-- an event whose participant, where it has one, is numbered below so many; its moment is of the day, and its node one of three
 abbrev pub IsEventOf : ℕ → Event → Type 0
 IsEventOf participants (events.Order participant side kind qty) = participant.0 < participants
 IsEventOf participants (events.Change participant target kind qty) = participant.0 < participants
 IsEventOf participants (events.Cancel participant target) = participant.0 < participants
 IsEventOf participants (events.Clock at) = at < 86400000
-IsEventOf participants (events.Crash node) = ⊥
-IsEventOf participants (events.Rejoin node) = ⊥
+IsEventOf participants (events.Crash node) = node < 3
+IsEventOf participants (events.Rejoin node) = node < 3
 
 -- the next own number of each caller, of the system and of 16 gateways, before any entry
 abbrev pub no_own : List ℕ

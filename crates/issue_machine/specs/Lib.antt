@@ -1,6 +1,7 @@
 pub mod Advancing
 pub mod Answering
 pub mod Clock
+pub mod History
 pub mod Journal
 pub mod Laws
 pub mod Replying

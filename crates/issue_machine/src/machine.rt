@@ -8,10 +8,12 @@ ghost use Rattle.issue_machine.specs.Standing.{AwaitsFinish, MayTake};
 ghost use Rattle.issue_machine.specs.Step.{board_of, event_step, step};
 
 use crate::clock::take_clock;
+use crate::nodes::{take_crash, take_rejoin};
 use crate::orders::{take_cancel, take_change, take_order};
 use issue_book::IssueFault;
 use issue_floor::Floor;
-use mkt_base::{Board, Entry, Event, NodeNo, NodeState, Reply, Side, Watch};
+use mkt_base::{Board, Caller, Entry, Event, NodeNo, NodeState, Reply, Side, Watch};
+use node_rules::node_step;
 use rules_file::Rules;
 use std::alloc::Global;
 use std::marker::Model;
@@ -71,7 +73,8 @@ fn take_event<W: Watch>(floor: &mut Floor, entry: &Entry, watch: &mut W) -> Repl
             target,
         } => take_cancel(floor, entry, participant, target, watch),
         Event::Clock { at } => take_clock(floor, at, watch),
-        Event::Crash { .. } | Event::Rejoin { .. } => unreachable!(),
+        Event::Crash { node } => take_crash(floor, node, watch),
+        Event::Rejoin { node } => take_rejoin(floor, node, watch),
     }
 }
 
@@ -100,7 +103,7 @@ impl Machine {
     }
 
     /// Does an entry, tells a watch its outputs in their order, and answers its reply. A refused event changes nothing but the
-    /// number of entries and the caller's next own number. Node events come later, and may not be entered yet.
+    /// number of entries, the caller's next own number, and by the rules of nodes the states of those that are joining.
     pub fn step<W: Watch>(&mut self, entry: &Entry, watch: &mut W) -> Reply
         requires { MayStep self.old entry.now }
         ensures state { self.new ≡ stepped self.old entry.now }
@@ -109,8 +112,14 @@ impl Machine {
         ensures told { W.took watch.old (step self.old.issue.terms entry.now self.old.issue.state).outputs watch.new }
     {
         self.floor.stands();
+        let nodes = node_step(
+            self.floor.entries(),
+            entry.caller,
+            &entry.event,
+            self.floor.nodes(),
+        );
         let reply = take_event(&mut self.floor, entry, watch);
-        self.floor.count_entry();
+        self.floor.count_entry(nodes);
         self.next_own[usize::from(entry.caller.0)] = entry.own + 1;
         reply
     }
@@ -127,6 +136,14 @@ impl Machine {
             bid: self.floor.best_limit(Side::Buy),
             ask: self.floor.best_limit(Side::Sell),
         }
+    }
+
+    /// The next own number of a caller: how many entries it has.
+    pub fn next_own(&self, caller: Caller) -> u32
+        requires { caller.0 < 17 }
+        ensures { slice_get self.now.next_own caller.0 ≡ Some result }
+    {
+        self.next_own[usize::from(caller.0)]
     }
 
     /// The state of a node, of which there are three.

@@ -2,7 +2,8 @@
 #![tactic(auto)]
 
 use market_top::{Status, file_words, run_market};
-use mkt_io::{FileShelf, StdSink, WriteFault, write_all};
+use memory_node::MemRack;
+use mkt_io::{FileShelf, Sink, StdSink, WriteFault, write_all};
 use std::env::{self, Env};
 use std::io::ErrorKind;
 use std::process::ExitCode;
@@ -10,21 +11,33 @@ use std::process::ExitCode;
 fn main(rt: HostRuntime) -> ExitCode {
     let mut out = StdSink::new(rt.stdout());
     let mut err = StdSink::new(rt.stderr());
-    let status = match words_of(&rt) {
-        Ok(words) => {
-            let mut shelf = FileShelf::new(&rt, file_words(&words));
-            run_market(rt.alloc(), &words, &mut shelf, &mut out, &mut err)
-        }
+    let words = match words_of(&rt) {
+        Ok(words) => words,
         // No command has no words, so the usage line is written.
-        Err(WordsError::NotText) => {
-            let words = Vec::new(rt.alloc());
-            let mut shelf = FileShelf::new(&rt, file_words(&words));
-            run_market(rt.alloc(), &words, &mut shelf, &mut out, &mut err)
-        }
-        Err(WordsError::Memory) => match write_all(&mut err, b"memory\n") {
-            Ok(()) => Status::NO_MEMORY,
-            Err(WriteFault) => Status::NOT_WRITTEN,
-        },
+        Err(WordsError::NotText) => Vec::new(rt.alloc()),
+        Err(WordsError::Memory) => return no_memory(&mut err),
+    };
+    // No call of a node fails.
+    let Ok(mut rack) = MemRack::make(rt.alloc(), Vec::new(rt.alloc())) else {
+        return no_memory(&mut err);
+    };
+    let mut shelf = FileShelf::new(&rt, file_words(&words));
+    let status = run_market(
+        rt.alloc(),
+        &words,
+        &mut shelf,
+        &mut out,
+        &mut err,
+        &mut rack,
+    );
+    ExitCode::from(status.0)
+}
+
+// Writes that there is no memory, and ends with 5, or with 4 where that fails.
+fn no_memory<E: Sink>(err: &mut E) -> ExitCode {
+    let status = match write_all(err, b"memory\n") {
+        Ok(()) => Status::NO_MEMORY,
+        Err(WriteFault) => Status::NOT_WRITTEN,
     };
     ExitCode::from(status.0)
 }

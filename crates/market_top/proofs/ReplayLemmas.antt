@@ -14,20 +14,23 @@ use Rattle.script_file.specs.Script.{script_of}
 use Rattle.script_file.specs.declared.fault.ScriptFault.{ScriptFault}
 use Rattle.script_file.specs.declared.fault.ScriptFault.TheVariants.{At, Memory}
 use Rattle.script_file.specs.declared.script.Script.{Script}
-use Rattle.run_report.specs.Report.{Run, report_text}
+use Rattle.mkt_base.specs.declared.script.ShowLine.{ShowLine}
+use Rattle.memory_node.specs.Given.{Given}
+use Rattle.memory_node.specs.declared.node.Label.{Label}
+use Rattle.run_report.specs.Report.{IsRun, Run, report_text}
+use Rattle.script_run.specs.Running.{run_of}
 use Rattle.run_report.specs.Reported.{Reports}
 use Rattle.run_report.specs.declared.ended.EndedIssue.{EndedIssue}
 use Rattle.run_report.specs.declared.ended.ReportFault.{ReportFault}
-use Rattle.script_run.specs.Run.{replayed}
 use Rattle.market_top.specs.Check.{OnRules, no_rules, refused_rules}
-use Rattle.market_top.specs.Replay.{IsReplayVerdict, IsReplayed, IsScriptVerdict, OnScript, cut_report, no_script, reported}
+use Rattle.market_top.specs.Replay.{IsReplayVerdict, IsReplayed, IsScriptVerdict, OnScript, cut_report, no_script, reported, status_of}
 use Rattle.market_top.specs.Verdict.{Delivered, IsRead, OnFile, Told, Verdict, no_memory}
 use Rattle.market_top.proofs.VerdictLemmas.{Appends-nothing, AppendsPart-nothing}
 
 module _ {O E : Type 0} (out : O → Option (List ℕ)) (out_faults : O → ℕ) (err : E → Option (List ℕ)) (err_faults : E → ℕ) (rules : Rules) (run : Run) (o o' : O) (count : out_faults o ≤ out_faults o') where
   -- the report is written
-  pub Delivered-reported : (e : E) → Appends (out o) (out o') (report_text rules run) → Delivered out out_faults err err_faults (reported rules run) o e o' e 0
-  Delivered-reported e written = record { answer = inl (refl, written, Appends-nothing (err e)); out_count = count; err_count = omega arith }
+  pub Delivered-reported : (e : E) (status : ℕ) → status ≡ status_of run.issues → Appends (out o) (out o') (report_text rules run) → Delivered out out_faults err err_faults (reported rules run) o e o' e status
+  Delivered-reported e status is written = record { answer = inl (is, written, Appends-nothing (err e)); out_count = count; err_count = omega arith }
 
   -- the sink failed
   pub Delivered-not_reported : (e : E) → Rises (out_faults o) (out_faults o') → AppendsPart (out o) (out o') (report_text rules run) → Delivered out out_faults err err_faults (reported rules run) o e o' e 4
@@ -58,35 +61,35 @@ no-script-out (At number fault) = refl
 no-script-out Memory = refl
 
 -- a script that is refused is told its first fault, or there is no memory
-pub no-script-is : (files : Option (List ℕ → Option (List ℕ))) (shelf_failed : Type 0) (name : List ℕ) (rules : Rules) (fault : ScriptFault) (bytes : List ℕ)
-    → IsRead 101000000 files name bytes → FailsScript fault (script_of rules bytes) → OnFile 101000000 files shelf_failed name (IsScriptVerdict rules) (no_script fault)
-no-script-is files shelf_failed name rules (At number fault) bytes read fails =
-    let P : Result Script ScriptFault → Type 0 = λ said. OnScript said (IsReplayed rules) (no_script (At number fault)) in
+pub no-script-is : (is_out : Label → Type 0) (given : Label → Option Given) (files : Option (List ℕ → Option (List ℕ))) (shelf_failed : Type 0) (name : List ℕ) (rules : Rules) (fault : ScriptFault) (bytes : List ℕ)
+    → IsRead 101000000 files name bytes → FailsScript fault (script_of rules bytes) → OnFile 101000000 files shelf_failed name (IsScriptVerdict is_out given rules) (no_script fault)
+no-script-is is_out given files shelf_failed name rules (At number fault) bytes read fails =
+    let P : Result Script ScriptFault → Type 0 = λ said. OnScript said (IsReplayed is_out given rules) (no_script (At number fault)) in
     inr (inr (bytes, read, subst P (sym fails) refl))
-no-script-is files shelf_failed name rules Memory bytes read fails = inr (inl refl)
+no-script-is is_out given files shelf_failed name rules Memory bytes read fails = inr (inl refl)
 
 -- a script that is replayed
-pub script-is : (files : Option (List ℕ → Option (List ℕ))) (shelf_failed : Type 0) (name : List ℕ) (rules : Rules) (script : Script) (bytes : List ℕ) (v : Verdict)
-    → IsRead 101000000 files name bytes → script_of rules bytes ≡ Ok script → IsReplayed rules script v → OnFile 101000000 files shelf_failed name (IsScriptVerdict rules) v
-script-is files shelf_failed name rules script bytes v read said is =
-    let P : Result Script ScriptFault → Type 0 = λ read. OnScript read (IsReplayed rules) v in
+pub script-is : (is_out : Label → Type 0) (given : Label → Option Given) (files : Option (List ℕ → Option (List ℕ))) (shelf_failed : Type 0) (name : List ℕ) (rules : Rules) (script : Script) (bytes : List ℕ) (v : Verdict)
+    → IsRead 101000000 files name bytes → script_of rules bytes ≡ Ok script → IsReplayed is_out given rules script v → OnFile 101000000 files shelf_failed name (IsScriptVerdict is_out given rules) v
+script-is is_out given files shelf_failed name rules script bytes v read said is =
+    let P : Result Script ScriptFault → Type 0 = λ read. OnScript read (IsReplayed is_out given rules) v in
     inr (inr (bytes, read, subst P (sym said) is))
 
-module _ (files : Option (List ℕ → Option (List ℕ))) (shelf_failed : Type 0) (rules_name : List ℕ) (on_script : (List ℕ → Verdict → Type 0) → Verdict → Type 0) (bytes : List ℕ) (read : IsRead 1048576 files rules_name bytes) where
+module _ (is_out : Label → Type 0) (given : Label → Option Given) (files : Option (List ℕ → Option (List ℕ))) (shelf_failed : Type 0) (rules_name : List ℕ) (on_script : (List ℕ → Verdict → Type 0) → Verdict → Type 0) (bytes : List ℕ) (read : IsRead 1048576 files rules_name bytes) where
   -- the rules are refused, or there is no memory for them
-  pub no-rules-replayed : (fault : RulesFault) → Fails fault (rules_of bytes) → OnFile 1048576 files shelf_failed rules_name (IsReplayVerdict on_script) (no_rules fault)
+  pub no-rules-replayed : (fault : RulesFault) → Fails fault (rules_of bytes) → OnFile 1048576 files shelf_failed rules_name (IsReplayVerdict is_out given on_script) (no_rules fault)
   no-rules-replayed rules_faults.Memory fails = inr (inl refl)
   no-rules-replayed fault fails = inr (inr (bytes, read, refused fault fails))
     where
-      refused : (f : RulesFault) → rules_of bytes ≡ Err f → IsReplayVerdict on_script bytes (refused_rules f)
+      refused : (f : RulesFault) → rules_of bytes ≡ Err f → IsReplayVerdict is_out given on_script bytes (refused_rules f)
       refused f said =
-          let P : Result Rules RulesFault → Type 0 = λ read. OnRules read (λ rules. on_script (IsScriptVerdict rules)) (refused_rules f) in
+          let P : Result Rules RulesFault → Type 0 = λ read. OnRules read (λ rules. on_script (IsScriptVerdict is_out given rules)) (refused_rules f) in
           subst P (sym said) refl
 
   -- the rules are read, and the script under them
-  pub rules-replayed : (rules : Rules) (v : Verdict) → rules_of bytes ≡ Ok rules → on_script (IsScriptVerdict rules) v → OnFile 1048576 files shelf_failed rules_name (IsReplayVerdict on_script) v
+  pub rules-replayed : (rules : Rules) (v : Verdict) → rules_of bytes ≡ Ok rules → on_script (IsScriptVerdict is_out given rules) v → OnFile 1048576 files shelf_failed rules_name (IsReplayVerdict is_out given on_script) v
   rules-replayed rules v said is =
-      let P : Result Rules RulesFault → Type 0 = λ read. OnRules read (λ rules. on_script (IsScriptVerdict rules)) v in
+      let P : Result Rules RulesFault → Type 0 = λ read. OnRules read (λ rules. on_script (IsScriptVerdict is_out given rules)) v in
       inr (inr (bytes, read, subst P (sym said) is))
 
 -- what holds of a file that is read later holds from the call's begin on
@@ -103,17 +106,19 @@ pub Rises-since : (from old new : ℕ) → from ≤ old → Rises old new → Ri
 Rises-since from old new before (inl more) = inl (omega arith)
 Rises-since from old new before (inr last) = inr last
 
--- the issues that were replayed, with nothing shown, are the run
-pub run-same : (rules : Rules) (script : Script) (issues : List EndedIssue) → issues ≡ (replayed rules script).issues → record { issues = issues; shows = [] } ≡ replayed rules script
-unfolding replayed
-run-same rules script issues is = ap (λ (es : List EndedIssue). let run : Run = record { issues = es; shows = [] } in run) is
+-- what is said of the report of what is lent is said of the run's
+pub Reports-run : {O : Type 0} (contents : O → Option (List ℕ)) (faults : O → ℕ) (old new : O) (result : Result (Unit {0}) ReportFault) (rules : Rules) (issues lent_issues : List EndedIssue) (shows lent_shows : List ShowLine)
+    → lent_issues ≡ issues → lent_shows ≡ shows → Reports contents faults old (report_text rules (run_of lent_issues lent_shows)) new result
+    → Reports contents faults old (report_text rules (run_of issues shows)) new result
+Reports-run contents faults old new result rules issues lent_issues shows lent_shows same_issues same_shows told =
+    let by_issues = subst (λ (es : List EndedIssue). Reports contents faults old (report_text rules (run_of es lent_shows)) new result) same_issues told in
+    subst (λ (ss : List ShowLine). Reports contents faults old (report_text rules (run_of issues ss)) new result) same_shows by_issues
 
--- what is said of the report of the issues that are lent is said of the run's
-pub Reports-run : {O : Type 0} (contents : O → Option (List ℕ)) (faults : O → ℕ) (old new : O) (result : Result (Unit {0}) ReportFault) (rules : Rules) (script : Script) (lent issues : List EndedIssue)
-    → lent ≡ issues → issues ≡ (replayed rules script).issues → Reports contents faults old (report_text rules (record { issues = lent; shows = [] })) new result
-    → Reports contents faults old (report_text rules (replayed rules script)) new result
-Reports-run contents faults old new result rules script lent issues same is told =
-    subst (λ (run : Run). Reports contents faults old (report_text rules run) new result) (run-same rules script lent (same ∙ is)) told
+-- a run that may be printed, of what is lent
+pub IsRun-lent : (rules : Rules) (issues lent_issues : List EndedIssue) (shows lent_shows : List ShowLine) → lent_issues ≡ issues → lent_shows ≡ shows → IsRun rules (run_of issues shows) → IsRun rules (run_of lent_issues lent_shows)
+IsRun-lent rules issues lent_issues shows lent_shows same_issues same_shows is =
+    let by_issues = subst (λ (es : List EndedIssue). IsRun rules (run_of es shows)) (sym same_issues) is in
+    subst (λ (ss : List ShowLine). IsRun rules (run_of lent_issues ss)) (sym same_shows) by_issues
 
 -- what holds at a good end, and at a bad one
 pub at-Ok : {T E : Type 0} (result : Result T E) (x : T) (P : Type 0) → result ≡ Ok x → OnOk result P → P

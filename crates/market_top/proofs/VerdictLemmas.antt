@@ -1,10 +1,13 @@
 -- How a verdict's parts are delivered, and what follows of its status.
-use Rattle.std.proofs.Common.{◌≡◌, ℕ, ◌⊎◌, ◌≤◌, inl, inr, List, [], Option, Some, None, Result, Ok, Err, refl, sym, ap, subst, ◌∙◌, arith}
+use Rattle.std.proofs.Common.{◌≡◌, ℕ, Bool, true, false, if◌then◌else◌, ◌⊎◌, ◌≤◌, inl, inr, List, [], Option, Some, None, Result, Ok, Err, refl, sym, ap, subst, ◌∙◌, arith}
 use Rattle.std.proofs.lemmas.List.{append-nil}
 use Rattle.std.specs.Io.KnownBytes.{Appends}
+use Rattle.std.specs.List.{list_all}
 use Rattle.mkt_io.specs.Faults.{Rises}
 use Rattle.mkt_io.specs.Sink.{AppendsPart}
 use Rattle.mkt_io.specs.declared.fault.LineFault.{LineFault}
+use Rattle.memory_node.specs.Given.{Given}
+use Rattle.memory_node.specs.declared.node.Label.{Label}
 use Rattle.mkt_base.specs.declared.auction.Outcome.{Outcome}
 use Rattle.auction_file.specs.AuctionFile.{Auction, auction_of}
 use Rattle.mkt_io.specs.declared.shelf.ReadFault.{ReadFault}
@@ -22,8 +25,9 @@ use Rattle.market_top.specs.Auction.{IsAuctionVerdict, IsFileVerdict, certified}
 use Rattle.market_top.specs.Check.{IsCheckVerdict, OnRules, no_rules, refused_rules, tabled}
 use Rattle.market_top.specs.Command.{Asked, auction, check, replay}
 use Rattle.market_top.specs.Program.{Answered, IsVerdict}
-use Rattle.market_top.specs.Replay.{IsReplayVerdict, IsReplayed, IsReported, IsScriptVerdict, OnScript}
-use Rattle.market_top.specs.Verdict.{Delivered, IsRead, OnFile, Told, Verdict, no_memory, unread}
+use Rattle.run_report.specs.declared.ended.EndedIssue.{EndedIssue}
+use Rattle.market_top.specs.Replay.{IsReplayVerdict, IsReplayed, IsReported, IsScriptVerdict, OnScript, has_node, status_of}
+use Rattle.market_top.specs.Verdict.{Delivered, IsRead, OnFile, Told, Verdict, no_memory, refused_words, unread}
 
 -- nothing is written
 pub Appends-nothing : (known : Option (List ℕ)) → Appends known known []
@@ -76,7 +80,7 @@ module _ {O E : Type 0} (out : O → Option (List ℕ)) (out_faults : O → ℕ)
 
 -- what follows from a verdict's status
 record IsCaused (asked : Option Asked) (shelf_failed : Type 0) (status : ℕ) : Type 0 where
-  known : status ≤ 5
+  known : status ≤ 6
   not_4 : status ≡ 4 → ⊥
   words : status ≡ 2 → asked ≡ None
   reading : status ≡ 3 → shelf_failed
@@ -88,11 +92,12 @@ AnswersBytes on = (bytes : List ℕ) (v : Verdict) → on bytes v → v.status �
 caused-done : (asked : Option Asked) (shelf_failed : Type 0) (v : Verdict) → v.status ≤ 1 → IsCaused asked shelf_failed v.status
 caused-done asked shelf_failed v few = record { known = omega arith; not_4 = λ s. absurd (omega arith); words = λ s. absurd (omega arith); reading = λ s. absurd (omega arith) }
 
-caused-five : (asked : Option Asked) (shelf_failed : Type 0) (v : Verdict) → v.status ≡ 5 → IsCaused asked shelf_failed v.status
-caused-five asked shelf_failed v five = record { known = omega arith; not_4 = λ s. absurd (omega arith); words = λ s. absurd (omega arith); reading = λ s. absurd (omega arith) }
+-- or there was no memory, or an issue is halted
+caused-late : (asked : Option Asked) (shelf_failed : Type 0) (v : Verdict) → 5 ≤ v.status → v.status ≤ 6 → IsCaused asked shelf_failed v.status
+caused-late asked shelf_failed v least most = record { known = omega arith; not_4 = λ s. absurd (omega arith); words = λ s. absurd (omega arith); reading = λ s. absurd (omega arith) }
 
 caused-no_memory : (asked : Option Asked) (shelf_failed : Type 0) (v : Verdict) → v ≡ no_memory → IsCaused asked shelf_failed v.status
-caused-no_memory asked shelf_failed v is = caused-five asked shelf_failed v (ap (λ (w : Verdict). w.status) is)
+caused-no_memory asked shelf_failed v is = let five : v.status ≡ 5 = ap (λ (w : Verdict). w.status) is in caused-late asked shelf_failed v (omega arith) (omega arith)
 
 caused-within : (asked : Option Asked) (limit : ℕ) (files : Option (List ℕ → Option (List ℕ))) (shelf_failed : Type 0) (name : List ℕ) (on : List ℕ → Verdict → Type 0)
     → ((bytes : List ℕ) (v : Verdict) → on bytes v → IsCaused asked shelf_failed v.status)
@@ -117,33 +122,52 @@ rules-status : (read : Result Rules RulesFault) (v : Verdict) → OnRules read (
 rules-status (Err fault) v is = let one : v.status ≡ 1 = ap (λ (w : Verdict). w.status) is in omega arith
 rules-status (Ok rules) v is = let zero : v.status ≡ 0 = ap (λ (w : Verdict). w.status) is in omega arith
 
-script-caused : (asked : Option Asked) (shelf_failed : Type 0) (rules : Rules) (read : Result Script ScriptFault) (v : Verdict) → OnScript read (IsReplayed rules) v → IsCaused asked shelf_failed v.status
-script-caused asked shelf_failed rules (Err (At number fault)) v is = let one : v.status ≡ 1 = ap (λ (w : Verdict). w.status) is in caused-done asked shelf_failed v (omega arith)
-script-caused asked shelf_failed rules (Err NoMemory) v is = caused-no_memory asked shelf_failed v is
-script-caused asked shelf_failed rules (Ok script) v is = by is.3
+-- a report's status is 0, or 6
+status-known : (issues : List EndedIssue) → (status_of issues ≡ 0) ⊎ (status_of issues ≡ 6)
+unfolding status_of
+status-known issues = by (list_all has_node issues)
   where
+    status : Bool → ℕ
+    status all = if all then 0 else 6
+
+    by : (all : Bool) → (status all ≡ 0) ⊎ (status all ≡ 6)
+    by true = inl refl
+    by false = inr refl
+
+script-caused : (asked : Option Asked) (shelf_failed : Type 0) (is_out : Label → Type 0) (given : Label → Option Given) (rules : Rules) (read : Result Script ScriptFault) (v : Verdict)
+    → OnScript read (IsReplayed is_out given rules) v → IsCaused asked shelf_failed v.status
+script-caused asked shelf_failed is_out given rules (Err (At number fault)) v is = let one : v.status ≡ 1 = ap (λ (w : Verdict). w.status) is in caused-done asked shelf_failed v (omega arith)
+script-caused asked shelf_failed is_out given rules (Err NoMemory) v is = caused-no_memory asked shelf_failed v is
+script-caused asked shelf_failed is_out given rules (Ok script) v (inl is) = caused-no_memory asked shelf_failed v is
+script-caused asked shelf_failed is_out given rules (Ok script) v (inr is) = by is.2
+  where
+    whole-run : v.status ≡ status_of is.0.issues → (status_of is.0.issues ≡ 0) ⊎ (status_of is.0.issues ≡ 6) → IsCaused asked shelf_failed v.status
+    whole-run same (inl zero) = caused-done asked shelf_failed v (omega (arith, same, zero))
+    whole-run same (inr six) = caused-late asked shelf_failed v (omega (arith, same, six)) (omega (arith, same, six))
+
     by : IsReported rules is.0 v → IsCaused asked shelf_failed v.status
-    by (inl whole) = let zero : v.status ≡ 0 = ap (λ (w : Verdict). w.status) whole in caused-done asked shelf_failed v (omega arith)
-    by (inr part) = caused-five asked shelf_failed v (ap (λ (w : Verdict). w.status) part.1)
+    by (inl whole) = whole-run (ap (λ (w : Verdict). w.status) whole) (status-known is.0.issues)
+    by (inr part) = let five : v.status ≡ 5 = ap (λ (w : Verdict). w.status) part.1 in caused-late asked shelf_failed v (omega arith) (omega arith)
 
-replay-caused : (asked : Option Asked) (files : Option (List ℕ → Option (List ℕ))) (shelf_failed : Type 0) (script : List ℕ) (read : Result Rules RulesFault) (v : Verdict)
-    → OnRules read (λ rules. OnFile 101000000 files shelf_failed script (IsScriptVerdict rules)) v → IsCaused asked shelf_failed v.status
-replay-caused asked files shelf_failed script (Err fault) v is = let one : v.status ≡ 1 = ap (λ (w : Verdict). w.status) is in caused-done asked shelf_failed v (omega arith)
-replay-caused asked files shelf_failed script (Ok rules) v is =
-    caused-within asked 101000000 files shelf_failed script (IsScriptVerdict rules) (λ bytes w said. script-caused asked shelf_failed rules (script_of rules bytes) w said) v is
+replay-caused : (asked : Option Asked) (files : Option (List ℕ → Option (List ℕ))) (shelf_failed : Type 0) (is_out : Label → Type 0) (given : Label → Option Given) (script : List ℕ) (read : Result Rules RulesFault) (v : Verdict)
+    → OnRules read (λ rules. OnFile 101000000 files shelf_failed script (IsScriptVerdict is_out given rules)) v → IsCaused asked shelf_failed v.status
+replay-caused asked files shelf_failed is_out given script (Err fault) v is = let one : v.status ≡ 1 = ap (λ (w : Verdict). w.status) is in caused-done asked shelf_failed v (omega arith)
+replay-caused asked files shelf_failed is_out given script (Ok rules) v is =
+    caused-within asked 101000000 files shelf_failed script (IsScriptVerdict is_out given rules) (λ bytes w said. script-caused asked shelf_failed is_out given rules (script_of rules bytes) w said) v is
 
-caused : (asked : Option Asked) (files : Option (List ℕ → Option (List ℕ))) (shelf_failed : Type 0) (v : Verdict) → IsVerdict asked files shelf_failed v → IsCaused asked shelf_failed v.status
+caused : (asked : Option Asked) (files : Option (List ℕ → Option (List ℕ))) (shelf_failed : Type 0) (is_out : Label → Type 0) (given : Label → Option Given) (v : Verdict)
+    → IsVerdict asked files shelf_failed is_out given v → IsCaused asked shelf_failed v.status
 unfolding AnswersBytes
-caused None files shelf_failed v is =
+caused None files shelf_failed is_out given v is =
     let two : v.status ≡ 2 = ap (λ (w : Verdict). w.status) is in
     record { known = omega arith; not_4 = λ s. absurd (omega arith); words = λ s. refl; reading = λ s. absurd (omega arith) }
-caused (Some (auction file)) files shelf_failed v is =
+caused (Some (auction file)) files shelf_failed is_out given v is =
     caused-on _ 101000000 files shelf_failed file IsAuctionVerdict (λ bytes. file-status (auction_of bytes)) v is
-caused (Some (check rules)) files shelf_failed v is =
+caused (Some (check rules)) files shelf_failed is_out given v is =
     caused-on _ 1048576 files shelf_failed rules IsCheckVerdict (λ bytes. rules-status (rules_of bytes)) v is
-caused (Some (replay rules script)) files shelf_failed v is =
-    caused-within _ 1048576 files shelf_failed rules (IsReplayVerdict (OnFile 101000000 files shelf_failed script))
-    (λ bytes w said. replay-caused _ files shelf_failed script (rules_of bytes) w said) v is
+caused (Some (replay rules script)) files shelf_failed is_out given v is =
+    caused-within _ 1048576 files shelf_failed rules (IsReplayVerdict is_out given (OnFile 101000000 files shelf_failed script))
+    (λ bytes w said. replay-caused _ files shelf_failed is_out given script (rules_of bytes) w said) v is
 
 -- rules that are read have their tables as the verdict
 pub good-rules : (bytes : List ℕ) (rules : Rules) → rules_of bytes ≡ Ok rules → IsCheckVerdict bytes (tabled rules)
@@ -187,20 +211,25 @@ pub unread-is : (limit : ℕ) (files : Option (List ℕ → Option (List ℕ))) 
 unread-is limit files shelf_failed name on Read failed = inl (refl, failed refl)
 unread-is limit files shelf_failed name on Memory failed = inr (inl refl)
 
+-- words that are no command are refused
+pub refused-is : (asked : Option Asked) (files : Option (List ℕ → Option (List ℕ))) (shelf_failed : Type 0) (is_out : Label → Type 0) (given : Label → Option Given)
+    → asked ≡ None → IsVerdict asked files shelf_failed is_out given refused_words
+refused-is asked files shelf_failed is_out given is = subst (λ (a : Option Asked). IsVerdict a files shelf_failed is_out given refused_words) (sym is) refl
+
 module _ {F O E : Type 0} (files : F → Option (List ℕ → Option (List ℕ))) (shelf_faults : F → ℕ) (out : O → Option (List ℕ)) (out_faults : O → ℕ) (err : E → Option (List ℕ)) (err_faults : E → ℕ)
-    (asked : Option Asked) (f : F) (o : O) (e : E) (f' : F) (o' : O) (e' : E) where
+    (is_out : Label → Type 0) (given : Label → Option Given) (asked : Option Asked) (f : F) (o : O) (e : E) (f' : F) (o' : O) (e' : E) where
   -- a verdict that is delivered is all that is promised
-  pub Answered-by : (v : Verdict) (status : ℕ) → IsVerdict asked (files f) (Rises (shelf_faults f) (shelf_faults f')) v
+  pub Answered-by : (v : Verdict) (status : ℕ) → IsVerdict asked (files f) (Rises (shelf_faults f) (shelf_faults f')) is_out given v
       → Delivered out out_faults err err_faults v o e o' e' status → shelf_faults f ≤ shelf_faults f'
-      → Answered files shelf_faults out out_faults err err_faults asked f o e f' o' e' status
+      → Answered files shelf_faults out out_faults err err_faults is_out given asked f o e f' o' e' status
   Answered-by v status is delivered count = by delivered.answer
     where
       cause : IsCaused asked (Rises (shelf_faults f) (shelf_faults f')) v.status
-      cause = caused asked (files f) (Rises (shelf_faults f) (shelf_faults f')) v is
+      cause = caused asked (files f) (Rises (shelf_faults f) (shelf_faults f')) is_out given v is
 
       by : ((status ≡ v.status) × Appends (out o) (out o') v.out × Appends (err e) (err e') v.err)
           ⊎ ((status ≡ 4) × (Rises (out_faults o) (out_faults o') ⊎ Rises (err_faults e) (err_faults e')) × AppendsPart (out o) (out o') v.out × AppendsPart (err e) (err e') v.err)
-          → Answered files shelf_faults out out_faults err err_faults asked f o e f' o' e' status
+          → Answered files shelf_faults out out_faults err err_faults is_out given asked f o e f' o' e' status
       by (inl all) = record {
         verdict = (v, is, delivered);
         known = omega (arith, cause.known, all.0);

@@ -3,6 +3,7 @@ pub use Rattle.mkt_base.specs.Certificate
 pub use Rattle.mkt_base.specs.Text
 pub use Rattle.mkt_io.specs.LineFault
 pub use Rattle.mkt_io.specs.Read
+pub use Rattle.memory_node.specs.Given
 pub use Rattle.auction_law.specs.Attempt
 pub use Rattle.auction_law.specs.Nearness
 pub use Rattle.auction_file.specs.AuctionFile
@@ -12,7 +13,9 @@ pub use Rattle.rules_report.specs.FaultLine
 pub use Rattle.rules_report.specs.Tables
 pub use Rattle.script_file.specs.Script
 pub use Rattle.run_report.specs.Report
-pub use Rattle.script_run.specs.Run
+pub use Rattle.run_law.specs.Replayed
+pub use Rattle.run_law.specs.Run
+pub use Rattle.script_run.specs.Nodes
 pub mod Auction
 pub mod Check
 pub mod Command

@@ -1,13 +1,12 @@
 // The command `auction`: holds one auction over a file.
-ghost use Rattle.std.specs.Prelude.{◌≡◌, ◌⊎◌, Some, Ok, Contains};
+ghost use Rattle.std.specs.Prelude.{◌≡◌, ◌⊎◌, ◌≤◌, Ok, Contains};
+ghost use Rattle.mkt_io.specs.Faults.{Rises};
 ghost use Rattle.mkt_io.specs.Printed.{PrintsLines};
 ghost use Rattle.mkt_io.specs.Sink.{Writes};
 ghost use Rattle.auction_file.specs.AuctionFile.{Auction, IsSound};
 ghost use Rattle.auction_file.specs.Meaning.{IsAlike, merged_of};
-ghost use Rattle.market_top.specs.Auction.{IsFileVerdict, fault_line};
-ghost use Rattle.market_top.specs.Command.{auction};
-ghost use Rattle.market_top.specs.Program.{Answered};
-ghost use Rattle.market_top.specs.Verdict.{Delivered, Told, Verdict, no_memory};
+ghost use Rattle.market_top.specs.Auction.{IsAuctionVerdict, IsFileVerdict, fault_line};
+ghost use Rattle.market_top.specs.Verdict.{Delivered, OnFile, Told, Verdict, no_memory};
 
 use crate::program::{Status, tell, tell_unread};
 use auction_file::AuctionFile;
@@ -28,8 +27,10 @@ pub(crate) fn run_auction<F: Shelf, O: Sink, E: Sink>(
     err: &mut E,
 ) -> Status
     requires { Contains (F.names shelf.old) name.now }
-    ensures { Answered F.files F.faults O.contents O.faults E.contents E.faults
-        (Some (auction name.now)) shelf.old out.old err.old shelf.new out.new err.new result.0 }
+    ensures verdict { (v : Verdict)
+        × OnFile 101000000 (F.files shelf.old) (Rises (F.faults shelf.old) (F.faults shelf.new)) name.now IsAuctionVerdict v
+        × Delivered O.contents O.faults E.contents E.faults v out.old err.old out.new err.new result.0 }
+    ensures count { F.faults shelf.old ≤ F.faults shelf.new }
 {
     let bytes = match read_whole(alloc, shelf, name, FILE_LIMIT) {
         Ok(bytes) => bytes,

@@ -1,11 +1,10 @@
 // The command `check`: prints the tables of a rules file.
-ghost use Rattle.std.specs.Prelude.{◌≡◌, Some, Contains};
+ghost use Rattle.std.specs.Prelude.{◌≡◌, ◌≤◌, Contains};
+ghost use Rattle.mkt_io.specs.Faults.{Rises};
 ghost use Rattle.rules_file.specs.Rules.{IsRules};
 ghost use Rattle.rules_report.specs.Tables.{tables_text};
-ghost use Rattle.market_top.specs.Check.{no_rules};
-ghost use Rattle.market_top.specs.Command.{check};
-ghost use Rattle.market_top.specs.Program.{Answered};
-ghost use Rattle.market_top.specs.Verdict.{Told};
+ghost use Rattle.market_top.specs.Check.{IsCheckVerdict, no_rules};
+ghost use Rattle.market_top.specs.Verdict.{Delivered, OnFile, Told, Verdict};
 
 use crate::program::{Status, tell_unread};
 use mkt_io::{Shelf, Sink, WriteFault, read_whole};
@@ -25,8 +24,10 @@ pub(crate) fn run_check<F: Shelf, O: Sink, E: Sink>(
     err: &mut E,
 ) -> Status
     requires { Contains (F.names shelf.old) name.now }
-    ensures { Answered F.files F.faults O.contents O.faults E.contents E.faults
-        (Some (check name.now)) shelf.old out.old err.old shelf.new out.new err.new result.0 }
+    ensures verdict { (v : Verdict)
+        × OnFile 1048576 (F.files shelf.old) (Rises (F.faults shelf.old) (F.faults shelf.new)) name.now IsCheckVerdict v
+        × Delivered O.contents O.faults E.contents E.faults v out.old err.old out.new err.new result.0 }
+    ensures count { F.faults shelf.old ≤ F.faults shelf.new }
 {
     let bytes = match read_whole(alloc, shelf, name, RULES_LIMIT) {
         Ok(bytes) => bytes,

@@ -1,5 +1,6 @@
 // The calls of the program.
 ghost use Rattle.std.specs.Prelude.{◌≡◌, map, string_bytes};
+ghost use Rattle.memory_node.specs.declared.node.Label.{Label};
 ghost use Rattle.market_top.specs.Command.{command_of, file_words};
 ghost use Rattle.market_top.specs.Program.{Answered};
 ghost use Rattle.market_top.specs.Verdict.{Told, unread};
@@ -8,11 +9,12 @@ use crate::auction::run_auction;
 use crate::check::run_check;
 use crate::command::{Command, command_of};
 use crate::replay::run_replay;
+use memory_node::Rack;
 use mkt_io::{ReadFault, Shelf, Sink, WriteFault, write_all};
 use std::alloc::Global;
 
 /// The exit status of a call: 0 done, 1 the file is refused, 2 the words are refused, 3 the file was not
-/// read, 4 a text was not written, 5 there was no memory.
+/// read, 4 a text was not written, 5 there was no memory, 6 done, but an issue is halted.
 #[derive(Clone, Copy, Debug, PartialEq, Eq)]
 pub struct Status(pub u8);
 
@@ -28,46 +30,54 @@ impl Status {
     pub const NOT_WRITTEN: Status = Status(4);
 
     pub const NO_MEMORY: Status = Status(5);
+
+    /// All is done and written; an issue lost its last synchronised node.
+    pub const HALTED: Status = Status(6);
 }
 
 const USAGE: &str =
     "usage: auction FILE | check RULES | replay RULES SCRIPT | replay --gen NUMBER ORDERS RULES | run RULES SCRIPT | audit RULES REPORT | gen NUMBER ORDERS\n";
 
 /// Does what the words ask for: reads from the shelf, writes the answer to `out` and a line for a refusal or a
-/// fault to `err`. It always returns.
-pub fn run_market<F: Shelf, O: Sink, E: Sink>(
+/// fault to `err`. The nodes of a script's issues are taken from the rack, and are back in it before the first byte of the
+/// report is written; want of memory may leave some out. It always returns.
+pub fn run_market<F: Shelf, O: Sink, E: Sink, R: Rack>(
     alloc: Global,
     words: &[String],
     shelf: &mut F,
     out: &mut O,
     err: &mut E,
+    rack: &mut R,
 ) -> Status
-    requires { F.names shelf.old ≡ file_words (map string_bytes words.now) }
+    requires names { F.names shelf.old ≡ file_words (map string_bytes words.now) }
+    requires rack { (l : Label) → R.is_out rack.old l → ⊥ }
     ensures { Answered F.files F.faults O.contents O.faults E.contents E.faults
-        (command_of (map string_bytes words.now))
+        (R.is_out rack.new) (R.given rack.new) (command_of (map string_bytes words.now))
         shelf.old out.old err.old shelf.new out.new err.new result.0 }
 {
-    run_plain(alloc, words, shelf, out, err)
+    run_plain(alloc, words, shelf, out, err, rack)
 }
 
 /// As `run_market`, for the commands that wait for nobody.
-pub fn run_plain<F: Shelf, O: Sink, E: Sink>(
+pub fn run_plain<F: Shelf, O: Sink, E: Sink, R: Rack>(
     alloc: Global,
     words: &[String],
     shelf: &mut F,
     out: &mut O,
     err: &mut E,
+    rack: &mut R,
 ) -> Status
-    requires { F.names shelf.old ≡ file_words (map string_bytes words.now) }
+    requires names { F.names shelf.old ≡ file_words (map string_bytes words.now) }
+    requires rack { (l : Label) → R.is_out rack.old l → ⊥ }
     ensures { Answered F.files F.faults O.contents O.faults E.contents E.faults
-        (command_of (map string_bytes words.now))
+        (R.is_out rack.new) (R.given rack.new) (command_of (map string_bytes words.now))
         shelf.old out.old err.old shelf.new out.new err.new result.0 }
 {
     match command_of(words) {
         Some(Command::Auction { file }) => run_auction(alloc, file, shelf, out, err),
         Some(Command::Check { rules }) => run_check(alloc, rules, shelf, out, err),
         Some(Command::Replay { rules, script }) => {
-            run_replay(alloc, rules, script, shelf, out, err)
+            run_replay(alloc, rules, script, shelf, out, err, rack)
         }
         None => tell(err, USAGE, Status::REFUSED_WORDS),
     }

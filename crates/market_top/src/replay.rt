@@ -1,64 +1,78 @@
 // The command `replay`: prints the report of a script whose lines are done in file order.
-ghost use Rattle.std.specs.Prelude.{◌≡◌, ◌≤◌, Some, Contains};
+ghost use Rattle.std.specs.Prelude.{◌≡◌, ◌≤◌, Some, All, Contains, is_some};
+ghost use Rattle.std.specs.List.{list_any};
+ghost use Rattle.memory_node.specs.declared.node.Label.{Label};
 ghost use Rattle.mkt_io.specs.Faults.{Rises};
 ghost use Rattle.mkt_io.specs.Printed.{PrintsLines};
 ghost use Rattle.mkt_io.specs.Sink.{Writes};
 ghost use Rattle.rules_file.specs.Rules.{IsRules};
+ghost use Rattle.rules_file.specs.declared.rules.Rules.{Rules};
 ghost use Rattle.script_file.specs.Script.{IsScript};
+ghost use Rattle.run_report.specs.Report.{IsEnded, IsRun};
+ghost use Rattle.run_report.specs.declared.ended.EndedIssue.{EndedIssue};
+ghost use Rattle.script_run.specs.Running.{run_of};
 ghost use Rattle.market_top.specs.Command.{replay};
 ghost use Rattle.market_top.specs.Program.{Answered};
-ghost use Rattle.market_top.specs.Replay.{IsReplayed, IsScriptVerdict, no_script, script_fault_line};
+ghost use Rattle.market_top.specs.Replay.{IsReplayed, IsReported, IsScriptVerdict, no_script, script_fault_line, status_of};
 ghost use Rattle.market_top.specs.Verdict.{Delivered, OnFile, Told, Verdict};
 
 use crate::check::{RULES_LIMIT, tell_no_rules};
 use crate::program::{Status, tell, tell_unread};
+use memory_node::Rack;
 use mkt_io::{Printer, Shelf, Sink, WriteFault, read_whole};
 use rules_file::{Rules, read_rules};
-use run_report::{ReportFault, write_report};
+use run_law::replay_is_run;
+use run_report::{EndedIssue, ReportFault, write_report};
 use script_file::{Script, ScriptFault, read_script};
-use script_run::{RunFault, replay_script, replayed_is_run};
+use script_run::{Replayed, RunFault, replay_script};
 use std::alloc::Global;
 
 /// How many bytes a script may have; one more is read, and makes it too long.
 const SCRIPT_LIMIT: u64 = 101_000_000;
 
 // Replays the script of this name under the rules of the other.
-pub(crate) fn run_replay<F: Shelf, O: Sink, E: Sink>(
+pub(crate) fn run_replay<F: Shelf, O: Sink, E: Sink, R: Rack>(
     alloc: Global,
     rules: &str,
     script: &str,
     shelf: &mut F,
     out: &mut O,
     err: &mut E,
+    rack: &mut R,
 ) -> Status
     requires rules { Contains (F.names shelf.old) rules.now }
     requires script { Contains (F.names shelf.old) script.now }
+    requires rack { (l : Label) → R.is_out rack.old l → ⊥ }
     ensures { Answered F.files F.faults O.contents O.faults E.contents E.faults
-        (Some (replay rules.now script.now)) shelf.old out.old err.old shelf.new out.new err.new result.0 }
+        (R.is_out rack.new) (R.given rack.new) (Some (replay rules.now script.now))
+        shelf.old out.old err.old shelf.new out.new err.new result.0 }
 {
     let bytes = match read_whole(alloc, shelf, rules, RULES_LIMIT) {
         Ok(bytes) => bytes,
         Err(fault) => return tell_unread(err, fault),
     };
     match read_rules(alloc, &bytes) {
-        Ok(said) => replay_under(alloc, &said, script, shelf, out, err),
+        Ok(said) => replay_under(alloc, &said, script, shelf, out, err, rack),
         Err(fault) => tell_no_rules(err, &fault),
     }
 }
 
 // Replays the script of this name under rules that were read.
-fn replay_under<F: Shelf, O: Sink, E: Sink>(
+fn replay_under<F: Shelf, O: Sink, E: Sink, R: Rack>(
     alloc: Global,
     rules: &Rules,
     name: &str,
     shelf: &mut F,
     out: &mut O,
     err: &mut E,
+    rack: &mut R,
 ) -> Status
     requires rules { IsRules rules.now }
     requires name { Contains (F.names shelf.old) name.now }
+    requires rack { (l : Label) → R.is_out rack.old l → ⊥ }
     ensures verdict { (v : Verdict)
-        × OnFile 101000000 (F.files shelf.old) (Rises (F.faults shelf.old) (F.faults shelf.new)) name.now (IsScriptVerdict rules.now) v
+        × OnFile 101000000 (F.files shelf.old) (Rises (F.faults shelf.old) (F.faults shelf.new)) name.now
+        (IsScriptVerdict (R.is_out rack.new) (R.given rack.new) rules.now) v
         × Delivered O.contents O.faults E.contents E.faults v out.old err.old out.new err.new result.0 }
     ensures count { F.faults shelf.old ≤ F.faults shelf.new }
 {
@@ -67,34 +81,70 @@ fn replay_under<F: Shelf, O: Sink, E: Sink>(
         Err(fault) => return tell_unread(err, fault),
     };
     match read_script(alloc, &bytes, rules) {
-        Ok(script) => report_script(alloc, rules, &script, out, err),
+        Ok(script) => report_script(alloc, rules, &script, out, err, rack),
         Err(fault) => tell_no_script(err, fault),
     }
 }
 
-// Writes the report of a script that was read.
-fn report_script<O: Sink, E: Sink>(
+// Replays a script that was read, and writes its report. Its nodes are back in the rack before anything is written.
+fn report_script<O: Sink, E: Sink, R: Rack>(
     alloc: Global,
     rules: &Rules,
     script: &Script,
     out: &mut O,
     err: &mut E,
+    rack: &mut R,
 ) -> Status
     requires rules { IsRules rules.now }
     requires script { IsScript rules.now script.now }
-    ensures { (v : Verdict) × IsReplayed rules.now script.now v
+    requires rack { (l : Label) → R.is_out rack.old l → ⊥ }
+    ensures { (v : Verdict) × IsReplayed (R.is_out rack.new) (R.given rack.new) rules.now script.now v
         × Delivered O.contents O.faults E.contents E.faults v out.old err.old out.new err.new result.0 }
 {
-    replayed_is_run();
-    let issues = match replay_script(alloc, rules, script) {
-        Ok(issues) => issues,
-        Err(RunFault::Memory) => return tell(err, "memory\n", Status::NO_MEMORY),
-    };
-    match write_report(alloc, out, rules, issues.as_slice(), &[]) {
-        Ok(()) => Status::DONE,
+    replay_is_run();
+    match replay_script(alloc, rules, script, rack) {
+        Ok(replayed) => report_run(alloc, rules, &replayed, out, err),
+        Err(RunFault::Memory) => tell(err, "memory\n", Status::NO_MEMORY),
+    }
+}
+
+// Writes the report of a run, and answers 0, or 6 where an issue is halted; 4 or 5 where it is not written whole.
+fn report_run<O: Sink, E: Sink>(
+    alloc: Global,
+    rules: &Rules,
+    run: &Replayed,
+    out: &mut O,
+    err: &mut E,
+) -> Status
+    requires rules { IsRules rules.now }
+    requires run { IsRun rules.now (run_of run.now.issues.items run.now.shows.items) }
+    ensures { (v : Verdict) × IsReported rules.now (run_of run.now.issues.items run.now.shows.items) v
+        × Delivered O.contents O.faults E.contents E.faults v out.old err.old out.new err.new result.0 }
+{
+    let issues = run.issues.as_slice();
+    let shows = run.shows.as_slice();
+    match write_report(alloc, out, rules, issues, shows) {
+        Ok(()) => done_status(issues),
         Err(ReportFault::Write) => Status::NOT_WRITTEN,
         Err(ReportFault::Memory) => tell(err, "memory\n", Status::NO_MEMORY),
     }
+}
+
+// 6 where an issue is halted, and else 0: some node of an issue is synchronised as long as it is not halted.
+fn done_status(issues: &[EndedIssue]) -> Status
+    ensures { (rules : Rules) → All (IsEnded rules) issues.now → result.0 ≡ status_of issues.now }
+{
+    if is_any_halted(issues) {
+        Status::HALTED
+    } else {
+        Status::DONE
+    }
+}
+
+fn is_any_halted(issues: &[EndedIssue]) -> bool
+    ensures { result ≡ list_any (λ (issue : EndedIssue). is_some issue.halt) issues.now }
+{
+    issues.iter().any(|issue| issue.halt.is_some())
 }
 
 // Writes why there is no script to standard error, and answers 1 or 5, or 4 where that fails.

@@ -1,2 +1,2 @@
 mod Examples
-mod LineLemmas
+pub mod LineLemmas

@@ -1,26 +1,18 @@
 -- A report, from what was printed of it.
-use Rattle.std.proofs.Common.{◌≡◌, ℕ, ◌+◌, ◌<◌, ◌≤◌, List, [], ◌∷◌, ◌++◌, Option, Result, Ok, Err, OnOk, IfErr, codes, drop, flat_map, get_or, length, take, append-nil, append_assoc, length-append, sym, ap, subst, ◌∙◌, arith}
+use Rattle.std.proofs.Common.{◌≡◌, ℕ, ◌+◌, ◌<◌, ◌≤◌, List, [], ◌∷◌, ◌++◌, Option, Result, Ok, Err, OnOk, IfErr, drop, get_or, length, take, append_assoc, length-append, sym, ap, subst, ◌∙◌, arith}
 use Rattle.std.proofs.lemmas.List.{drop_more, take_all, take-append-le}
 use Rattle.std.specs.Io.KnownBytes.{Appends}
-use Rattle.mkt_base.specs.Text.{line}
 use Rattle.mkt_io.specs.Faults.{Rises}
 use Rattle.mkt_io.specs.Printed.{Printed, PrintsLines}
 use Rattle.mkt_io.specs.Sink.{AppendsPart}
 use Rattle.mkt_io.specs.declared.printer.Printer.{Printer}
 use Rattle.rules_file.specs.declared.rules.Rules.{Rules}
 use Rattle.run_report.specs.Issue.{PrintsFront}
-use Rattle.run_report.specs.Report.{Run, issue_text, issues_text, report_text, show_line}
+use Rattle.run_report.specs.Report.{issue_text, issues_text}
 use Rattle.run_report.specs.Reported.{Reports}
 use Rattle.run_report.specs.declared.ended.EndedIssue.{EndedIssue}
 use Rattle.run_report.specs.declared.ended.ReportFault.{ReportFault}
 use Rattle.run_report.specs.declared.ended.ReportFault.TheVariants.{Memory, Write}
-
--- the report of a run in which nothing was shown
-pub report-is : (rules : Rules) (run : Run) → run.shows ≡ []
-    → (line (codes "market" ∷ codes "1" ∷ []) ++ issues_text rules 0 run.issues) ++ line (codes "end" ∷ []) ≡ report_text rules run
-report-is rules run none =
-    let before = line (codes "market" ∷ codes "1" ∷ []) ++ issues_text rules 0 run.issues in
-    ap (λ xs. xs ++ line (codes "end" ∷ [])) (sym (append-nil before) ∙ ap (λ shows. before ++ flat_map (show_line rules) shows) (sym none))
 
 -- the part of one issue more
 pub issue-next : (rules : Rules) (i : ℕ) (issues : List EndedIssue) (item : EndedIssue) (text whole : List ℕ) → i < length issues → item ≡ get_or issues i item

@@ -1,5 +1,5 @@
 -- The report of a run: its issues with their journals, and what was shown.
-use Rattle.std.specs.Prelude.{◌≡◌, ℕ, zero, suc, ◌+◌, ◌≤◌, List, [], ◌∷◌, ◌++◌, length, map, flat_map, filter_map, sum_by, Option, Some, None, IfSome, All, codes, slice_get}
+use Rattle.std.specs.Prelude.{◌≡◌, ◌⊎◌, ℕ, zero, suc, ◌+◌, ◌<◌, ◌≤◌, List, [], ◌∷◌, ◌++◌, length, map, flat_map, filter_map, sum_by, take, Option, Some, None, IfSome, All, AllPairs, codes, slice_get}
 use Rattle.std.specs.Fmt.{decimal}
 use Rattle.std.specs.Option.{option_map_or}
 use Rattle.mkt_base.specs.Certificate.{outcome_line, price_word, rejected_line}
@@ -13,16 +13,19 @@ use Rattle.mkt_base.specs.declared.journal.NodeState.{NodeState}
 use Rattle.mkt_base.specs.declared.journal.NodeState.TheVariants.{Lost}
 use Rattle.mkt_base.specs.declared.output.Output.{Output}
 use Rattle.mkt_base.specs.declared.output.Output.TheVariants as outputs
+use Rattle.mkt_base.specs.declared.quote.Board.{Board}
 use Rattle.mkt_base.specs.declared.quote.Quote.{Quote}
 use Rattle.mkt_base.specs.declared.script.ShowLine.{ShowLine}
 use Rattle.rules_file.specs.Rules.{codes_in, gateways_in, issues_in, participants_in}
+use Rattle.rules_file.specs.declared.issue.IssueRules.{IssueRules}
 use Rattle.rules_file.specs.declared.rules.Rules.{Rules}
 use Rattle.rules_report.specs.Tables.{issue_line}
 use Rattle.issue_book.specs.Filled.{trade_in}
 use Rattle.issue_book.specs.IssueView.{terms_of}
 use Rattle.issue_book.specs.State.{State, Terms, start}
-use Rattle.issue_machine.specs.Journal.{IsEventOf, IsJournal}
-use Rattle.issue_machine.specs.Step.{Done, replay, state_after}
+use Rattle.issue_machine.specs.History.{IsHistory, entries_by}
+use Rattle.issue_machine.specs.Journal.{IsEventOf}
+use Rattle.issue_machine.specs.Step.{Done, board_of, replay, state_after}
 use Rattle.run_report.specs.declared.ended.EndedIssue.{EndedIssue}
 
 -- a run: its issues in file order, and what was shown in the order of lines
@@ -124,15 +127,40 @@ report_text rules run =
 
 -- ---- what is printed
 
--- an issue that may be printed: its journal is one, and its callers are gateways of the rules, or the system
+-- the event of a halt is its caller's next one, of a gateway of the rules
+pub record IsHaltOf (rules : Rules) (journal : List Entry) (h : Halt) : Type 0 where
+  pub caller : 1 ≤ h.caller.0
+  pub gateway : h.caller.0 ≤ length (gateways_in rules)
+  pub own : h.own ≡ length (entries_by h.caller.0 journal)
+  pub event : IsEventOf (length (participants_in rules)) h.event
+
+-- an issue that may be printed: its journal is a history, and its callers are gateways of the rules, or the system
 pub record IsEnded (rules : Rules) (ended : EndedIssue) : Type 0 where
-  pub journal : IsJournal (length (participants_in rules)) ended.journal
+  pub history : IsHistory (length (participants_in rules)) ended.journal
   pub few : length ended.journal ≤ 100000000
   pub callers : All (λ (e : Entry). e.caller.0 ≤ length (gateways_in rules)) ended.journal
-  pub halt : IfSome ended.halt (λ h. (1 ≤ h.caller.0) × (h.caller.0 ≤ length (gateways_in rules)) × IsEventOf (length (participants_in rules)) h.event)
+  pub halt : IfSome ended.halt (IsHaltOf rules ended.journal)
 
--- a run that may be printed: it has each issue of the rules; shows come later
+-- a read of the board is of an issue and by a gateway of the rules
+pub record IsNamed (rules : Rules) (s : ShowLine) : Type 0 where
+  pub issue : s.issue < length (issues_in rules)
+  pub caller : 1 ≤ s.gateway.0
+  pub gateway : s.gateway.0 ≤ length (gateways_in rules)
+
+-- it shows the board of the journal's first entries, as many as it tells
+pub record IsShown (rules : Rules) (r : IssueRules) (journal : List Entry) (board : Board) : Type 0 where
+  pub within : board.length ≤ length journal
+  pub board_is : board ≡ board_of (terms_of rules r) (state_after (terms_of rules r) (take board.length journal))
+
+-- one read of the board stands before another: by its line, and in one line by its issue
+abbrev pub IsShownBefore : ShowLine → ShowLine → Type 0
+IsShownBefore a b = (a.line < b.line) ⊎ ((a.line ≡ b.line) × (a.issue < b.issue))
+
+-- a run that may be printed: it has each issue of the rules; and its reads of boards, which rise, show the boards of its journals
 pub record IsRun (rules : Rules) (run : Run) : Type 0 where
   pub each : length run.issues ≡ length (issues_in rules)
   pub ended : All (IsEnded rules) run.issues
-  pub shows : run.shows ≡ []
+  pub named : All (IsNamed rules) run.shows
+  pub shown : All (λ (s : ShowLine). (r : IssueRules) (ended : EndedIssue) → slice_get (issues_in rules) s.issue ≡ Some r → slice_get run.issues s.issue ≡ Some ended
+      → IsShown rules r ended.journal s.board) run.shows
+  pub rise : AllPairs IsShownBefore run.shows

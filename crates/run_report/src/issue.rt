@@ -15,7 +15,7 @@ use crate::sound::SoundRules;
 use crate::tally::Tally;
 use crate::watch::PrintWatch;
 use crate::{ReportFault, Totals, lines};
-use issue_machine::Machine;
+use issue_machine::{Machine, history_is_journal};
 use mkt_base::{Entry, Halt, NODES, NodeNo, NodeState};
 use mkt_io::{Printer, Sink};
 use rules_file::Rules;
@@ -44,6 +44,7 @@ pub fn print_issue<O: Sink>(
         (λ r. totals ≡ totals_on (terms_of rules.now r) (record { journal = journal.now; halt = halt }))) }
     ensures cause { IfErr result (λ fault. fault ≡ ReportFault.Memory) }
 {
+    history_is_journal();
     let entries = journal.len() as u64;
     let Ok(mut machine) = Machine::make(alloc, rules, issue, entries) else {
         return Err(ReportFault::Memory);

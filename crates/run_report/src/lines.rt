@@ -167,7 +167,7 @@ fn print_shown<O: Sink>(printer: &mut Printer<'_, O>, quote: &Option<Quote>)
 }
 
 // The kind of a quote, its side, its price, and when it is due.
-fn print_quote_words<O: Sink>(printer: &mut Printer<'_, O>, quote: &Quote)
+pub(crate) fn print_quote_words<O: Sink>(printer: &mut Printer<'_, O>, quote: &Quote)
     ensures { PrintsWords O.contents O.faults printer.old printer.new (quote_words quote.now) }
 {
     printer.word(quote_kind_name(quote.kind));

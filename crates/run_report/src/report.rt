@@ -8,14 +8,14 @@ ghost use Rattle.run_report.specs.Issue.{PrintsFront};
 ghost use Rattle.run_report.specs.Report.{IsEnded, IsRun, issues_text, report_text};
 ghost use Rattle.run_report.specs.Reported.{Reports};
 
-use crate::{EndedIssue, ReportFault, print_issue};
+use crate::{EndedIssue, ReportFault, print_issue, print_shows};
 use mkt_base::ShowLine;
 use mkt_io::{Printer, Sink, WriteFault};
 use rules_file::Rules;
 use std::alloc::Global;
 
-/// Writes the report of a run: its issues in file order, and what was shown, which is nothing in a run so far. At `Err` a front
-/// part of it is written: whole lines at `Memory`, whatever the sink took at `Write`.
+/// Writes the report of a run: its issues in file order, and the reads of boards. At `Err` a front part of it is written: whole lines at
+/// `Memory`, whatever the sink took at `Write`.
 pub fn write_report<O: Sink>(
     alloc: Global,
     out: &mut O,
@@ -42,18 +42,20 @@ fn print_report<O: Sink>(
     printer: &mut Printer<'_, O>,
     rules: &Rules,
     issues: &[EndedIssue],
-    _shows: &[ShowLine],
+    shows: &[ShowLine],
 ) -> Result<(), ReportFault>
     requires rules { IsRules rules.now }
-    requires run { IsRun rules.now (record { issues = issues.now; shows = _shows.now }) }
+    requires run { IsRun rules.now (record { issues = issues.now; shows = shows.now }) }
     ensures front { PrintsFront O.contents O.faults printer.old printer.new
-        (report_text rules.now (record { issues = issues.now; shows = _shows.now })) }
+        (report_text rules.now (record { issues = issues.now; shows = shows.now })) }
     ensures whole { OnOk result (PrintsLines O.contents O.faults printer.old printer.new
-        (report_text rules.now (record { issues = issues.now; shows = _shows.now }))) }
+        (report_text rules.now (record { issues = issues.now; shows = shows.now }))) }
     ensures cause { IfErr result (λ fault. fault ≡ ReportFault.Memory) }
 {
     print_begin(printer);
     print_issues(alloc, printer, rules, issues)?;
+    // (a fault is kept by the printer, and told by its end)
+    let _ = print_shows(rules, shows, printer);
     print_end(printer);
     Ok(())
 }

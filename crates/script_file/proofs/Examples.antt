@@ -1,19 +1,19 @@
 -- Worked examples: the definitions compute to what a reader of the format would say.
 use Rattle.std.specs.Prelude.{⊤, ◌≡◌, ℕ, List, [], ◌∷◌, ◌++◌, flat_map, Result, Ok, Err, refl, codes}
-use Rattle.mkt_base.specs.declared.event.Event.TheVariants.{Order, Change, Cancel, Clock}
+use Rattle.mkt_base.specs.declared.event.Event.TheVariants.{Order, Change, Cancel, Clock, Crash, Rejoin}
 use Rattle.mkt_base.specs.declared.order.Kind.TheVariants.{Market, Limit}
 use Rattle.mkt_base.specs.declared.order.Side.TheVariants.{Buy, Sell}
 use Rattle.mkt_base.specs.declared.script.Act.{Act}
-use Rattle.mkt_base.specs.declared.script.Act.TheVariants.{Do}
+use Rattle.mkt_base.specs.declared.script.Act.TheVariants.{Do, Show}
 use Rattle.mkt_io.specs.LineFault.{checked_words, next_number, number_in}
 use Rattle.mkt_io.specs.Time.{digit_of, millis_of, part_at, time_of, two_at}
 use Rattle.mkt_io.specs.Words.{number_of, words}
 use Rattle.rules_file.specs.declared.issue.IssueRules.{IssueRules}
 use Rattle.rules_file.specs.declared.rules.Rules.{Rules}
-use Rattle.script_file.specs.Commands.{cancel_words, change_words, clock_words, next_command, order_words}
+use Rattle.script_file.specs.Commands.{cancel_words, change_words, clock_words, crash_words, next_command, order_words, rejoin_words, show_words}
 use Rattle.script_file.specs.Own.{is_order_of}
 use Rattle.script_file.specs.Script.{gateway_line, line_said, read_lines, said_by, script_of, with_lines, words_said}
-use Rattle.script_file.specs.Words.{gateway_of, issues_of, kind_of, next_issues, next_kind, next_moment, next_own, next_participant, next_side}
+use Rattle.script_file.specs.Words.{gateway_of, issues_of, kind_of, next_issues, next_kind, next_moment, next_node, next_own, next_participant, next_side}
 use Rattle.script_file.specs.declared.fault.ScriptFault.{ScriptFault}
 use Rattle.script_file.specs.declared.fault.ScriptFault.TheVariants.{At}
 use Rattle.script_file.specs.declared.script.GatewayScriptLine.{GatewayScriptLine}
@@ -21,7 +21,7 @@ use Rattle.script_file.specs.declared.script.Script.{Script}
 
 -- what the examples unfold
 unfoldable script_on_literals : ⊤
-unfolding checked_words words next_number number_in number_of digit_of millis_of part_at time_of two_at clock_words cancel_words change_words next_command order_words is_order_of gateway_line line_said read_lines said_by with_lines words_said gateway_of issues_of kind_of next_issues next_kind next_moment next_own next_participant next_side
+unfolding checked_words words next_number number_in number_of digit_of millis_of part_at time_of two_at clock_words cancel_words change_words crash_words next_command order_words rejoin_words show_words is_order_of gateway_line line_said read_lines said_by with_lines words_said gateway_of issues_of kind_of next_issues next_kind next_moment next_node next_own next_participant next_side
 script_on_literals = tt
 
 abbrev issue : IssueRules
@@ -46,9 +46,13 @@ rules = record {
 abbrev said : List (List ℕ) → Result Script ScriptFault
 said lines = script_of rules (flat_map (λ line. line ++ 10 ∷ []) lines)
 
--- a gateway's line of the first stage
+-- a gateway's line of a stage
+abbrev made_in : ℕ → ℕ → ℕ → ℕ → Act → GatewayScriptLine
+made_in stage gateway number at act = record { gateway = record { 0 = gateway }; line = record { line = number; stage = stage; issue = at; act = act } }
+
+-- one of the first stage
 abbrev made : ℕ → ℕ → ℕ → Act → GatewayScriptLine
-made gateway number at act = record { gateway = record { 0 = gateway }; line = record { line = number; stage = 0; issue = at; act = act } }
+made = made_in 0
 
 nothing : said [] ≡ Ok (record { lines = []; stages = 1 })
 unfolding script_on_literals
@@ -87,10 +91,24 @@ issue_next : said (codes "g1 ZZ foo" ∷ []) ≡ Err (At 1 3)
 unfolding script_on_literals
 issue_next = refl
 
--- the one word `barrier`, also where a gateway has that name
-one_barrier : said (codes "" ∷ codes " barrier " ∷ codes "g9" ∷ []) ≡ Err (At 2 1)
+-- the one word `barrier` ends a stage, also where a gateway has that name, and also the last line
+barriers : said (codes "g1 * crash 2" ∷ codes " barrier " ∷ codes "barrier AAAA rejoin 0" ∷ codes "barrier" ∷ codes "barrier" ∷ codes "g1 BBBB show" ∷ codes "barrier" ∷ [])
+    ≡ Ok (record { lines = made 1 1 0 (Do (Crash 2)) ∷ made 1 1 1 (Do (Crash 2)) ∷ made_in 1 2 3 0 (Do (Rejoin 0)) ∷ made_in 3 1 6 1 Show ∷ []; stages = 5 })
 unfolding script_on_literals
-one_barrier = refl
+barriers = refl
+
+-- with a word behind it, it is a gateway's name
+no_barrier : said (codes "barrier barrier" ∷ []) ≡ Err (At 1 3)
+unfolding script_on_literals
+no_barrier = refl
+
+no_node : said (codes "g1 AAAA crash 3 x" ∷ []) ≡ Err (At 1 2)
+unfolding script_on_literals
+no_node = refl
+
+which_node : said (codes "g1 * rejoin" ∷ []) ≡ Err (At 1 1)
+unfolding script_on_literals
+which_node = refl
 
 unknown_participant : said (codes "g1 AAAA order p9 hold x x" ∷ []) ≡ Err (At 1 5)
 unfolding script_on_literals
@@ -118,6 +136,15 @@ changed : said (codes "g1 * clock 08:00:00" ∷ codes "g1 AAAA order p1 buy 7 5"
     })
 unfolding script_on_literals
 changed = refl
+
+-- a read of the board is no event: the order behind it is the gateway's event 0 there
+no_event : said (codes "g1 * show" ∷ codes "g1 BBBB order p1 buy 7 5" ∷ codes "g1 BBBB show" ∷ codes "g1 BBBB cancel p1 0" ∷ [])
+    ≡ Ok (record {
+      lines = made 1 1 0 Show ∷ made 1 1 1 Show ∷ made 1 2 1 (Do (Order (record { 0 = 0 }) Buy (Limit (record { 0 = 7 })) (record { 0 = 5 }))) ∷ made 1 3 1 Show ∷ made 1 4 1 (Do (Cancel (record { 0 = 0 }) 0)) ∷ [];
+      stages = 1;
+    })
+unfolding script_on_literals
+no_event = refl
 
 no_order_yet : said (codes "g1 AAAA cancel p1 0" ∷ codes "g1 AAAA order p1 buy 7 5" ∷ []) ≡ Err (At 1 6)
 unfolding script_on_literals

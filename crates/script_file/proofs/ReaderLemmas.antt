@@ -134,6 +134,11 @@ module _ (rules : Rules) (script : Script) (number : ℕ) (line : List ℕ) wher
   unfolding line_said
   line_said-err fault e = rw e refl
 
+  -- only lines up to number 500,000 are read
+  pub words_said-few : (said : Said) → words_said rules script.lines number line ≡ Ok said → number ≤ 500000
+  unfolding words_said checked_words
+  words_said-few said e = grind (arith, nat_tests)
+
   -- a line whose own tests fail says nothing else
   pub line_said-checked_words : (fault : LineFault) → checked_words number line ≡ Err fault → line_said rules script number line ≡ Err (At number (fault_number fault))
   unfolding line_said words_said

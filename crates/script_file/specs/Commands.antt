@@ -1,20 +1,20 @@
--- The commands of a gateway, each with the words that follow it. A further command is a row of `command_of` and one of
--- `act_words`, with its own words.
+-- The commands of a gateway, each with the words that follow it.
 use Rattle.std.specs.Prelude.{ℕ, ◌<◌, List, length, Result, Ok, Err, if◌then◌else◌, codes}
 use Rattle.std.specs.Str.{bytes_eq}
 use Rattle.mkt_base.specs.declared.event.Event.{Event}
 use Rattle.mkt_base.specs.declared.event.Event.TheVariants as events
 use Rattle.mkt_base.specs.declared.script.Act.{Act}
-use Rattle.mkt_base.specs.declared.script.Act.TheVariants.{Do, Show}
+use Rattle.mkt_base.specs.declared.script.Act.TheVariants.{Do}
+use Rattle.mkt_base.specs.declared.script.Act.TheVariants as acts
 use Rattle.mkt_base.specs.declared.units.Caller.{Caller}
 use Rattle.mkt_io.specs.LineFault.{◌>>=◌, next_number, no_more, wanted}
 use Rattle.mkt_io.specs.declared.fault.LineFault.{LineFault}
 use Rattle.mkt_io.specs.declared.fault.LineFault.TheVariants.{Word, Issue}
 use Rattle.rules_file.specs.Rules.{participants_in}
 use Rattle.rules_file.specs.declared.rules.Rules.{Rules}
-use Rattle.script_file.specs.Words.{next_kind, next_moment, next_own, next_participant, next_side}
+use Rattle.script_file.specs.Words.{next_kind, next_moment, next_node, next_own, next_participant, next_side}
 use Rattle.script_file.specs.declared.commands.Command.{Command}
-use Rattle.script_file.specs.declared.commands.Command.TheVariants.{Order, Change, Cancel, Clock}
+use Rattle.script_file.specs.declared.commands.Command.TheVariants.{Order, Change, Cancel, Clock, Crash, Rejoin, Show}
 use Rattle.script_file.specs.declared.script.GatewayScriptLine.{GatewayScriptLine}
 use Rattle.script_file.specs.declared.words.Issues.{Issues}
 use Rattle.script_file.specs.declared.words.Issues.TheVariants.{One, Each}
@@ -25,7 +25,10 @@ command_of word =
     if bytes_eq word (codes "order") then Ok Order
     else (if bytes_eq word (codes "change") then Ok Change
     else (if bytes_eq word (codes "cancel") then Ok Cancel
-    else (if bytes_eq word (codes "clock") then Ok Clock else Err Word)))
+    else (if bytes_eq word (codes "clock") then Ok Clock
+    else (if bytes_eq word (codes "crash") then Ok Crash
+    else (if bytes_eq word (codes "rejoin") then Ok Rejoin
+    else (if bytes_eq word (codes "show") then Ok Show else Err Word))))))
 
 -- the command that the next word names, and the words after it
 unfoldable pub next_command : List (List ℕ) → Result (Command × List (List ℕ)) LineFault
@@ -69,6 +72,26 @@ clock_words words = do
   end ← no_more moment.1
   Ok (Do (events.Clock moment.0))
 
+-- after `crash`: NODE
+unfoldable pub crash_words : List (List ℕ) → Result Act LineFault
+crash_words words = do
+  node ← next_node words
+  end ← no_more node.1
+  Ok (Do (events.Crash node.0))
+
+-- after `rejoin`: NODE
+unfoldable pub rejoin_words : List (List ℕ) → Result Act LineFault
+rejoin_words words = do
+  node ← next_node words
+  end ← no_more node.1
+  Ok (Do (events.Rejoin node.0))
+
+-- after `show`: nothing
+unfoldable pub show_words : List (List ℕ) → Result Act LineFault
+show_words words = do
+  end ← no_more words
+  Ok acts.Show
+
 -- what the words after a command of a gateway say, after the lines made so far: an order, a change and a cancellation are
 -- for one issue
 abbrev pub act_words : Rules → List GatewayScriptLine → Caller → Issues → Command → List (List ℕ) → Result Act LineFault
@@ -79,18 +102,20 @@ act_words rules made gateway Each Order words = Err Issue
 act_words rules made gateway Each Change words = Err Issue
 act_words rules made gateway Each Cancel words = Err Issue
 act_words rules made gateway issues Clock words = clock_words words
+act_words rules made gateway issues Crash words = crash_words words
+act_words rules made gateway issues Rejoin words = rejoin_words words
+act_words rules made gateway issues Show words = show_words words
 
--- what holds of an event of a script: its participant is one of the rules, its moment is of the day; a crash and a rejoin have no
--- command yet
+-- what holds of an event of a script: its participant is one of the rules, its moment is of the day, its node is one of the three
 abbrev pub IsEventOf : Rules → Event → Type 0
 IsEventOf rules (events.Order participant side kind qty) = participant.0 < length (participants_in rules)
 IsEventOf rules (events.Change participant target kind qty) = participant.0 < length (participants_in rules)
 IsEventOf rules (events.Cancel participant target) = participant.0 < length (participants_in rules)
 IsEventOf rules (events.Clock at) = at < 86400000
-IsEventOf rules (events.Crash node) = ⊥
-IsEventOf rules (events.Rejoin node) = ⊥
+IsEventOf rules (events.Crash node) = node < 3
+IsEventOf rules (events.Rejoin node) = node < 3
 
--- what holds of what a line of a script does; a read of the board has no command yet
+-- what holds of what a line of a script does
 abbrev pub IsActOf : Rules → Act → Type 0
 IsActOf rules (Do event) = IsEventOf rules event
-IsActOf rules Show = ⊥
+IsActOf rules acts.Show = Unit {0}

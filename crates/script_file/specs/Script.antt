@@ -1,5 +1,5 @@
 -- What the bytes of a script mean, under rules: the lines of the gateways with their stages, or the first fault.
-use Rattle.std.specs.Prelude.{ℕ, Bool, false, ◌+◌, ◌-◌, ◌<◌, ◌≤◌, List, All, [], ◌∷◌, ◌++◌, length, filter, map, Result, Ok, Err, if◌then◌else◌, nat_lt, codes}
+use Rattle.std.specs.Prelude.{◌≡◌, ◌⊎◌, ℕ, Bool, false, ◌+◌, ◌-◌, ◌<◌, ◌≤◌, List, All, AllPairs, [], ◌∷◌, ◌++◌, length, filter, map, Result, Ok, Err, if◌then◌else◌, nat_lt, codes}
 use Rattle.std.specs.List.{range_with_len}
 use Rattle.std.specs.Str.{bytes_eq}
 use Rattle.mkt_base.specs.declared.script.Act.{Act}
@@ -7,7 +7,7 @@ use Rattle.mkt_base.specs.declared.units.Caller.{Caller}
 use Rattle.mkt_io.specs.Lines.{lines}
 use Rattle.mkt_io.specs.LineFault.{◌>>=◌, checked_words, is_skipped, wanted}
 use Rattle.mkt_io.specs.declared.fault.LineFault.{LineFault}
-use Rattle.mkt_io.specs.declared.fault.LineFault.TheVariants.{Word, TooMany}
+use Rattle.mkt_io.specs.declared.fault.LineFault.TheVariants.{TooMany}
 use Rattle.rules_file.specs.Rules.{gateways_in, issues_in}
 use Rattle.rules_file.specs.declared.rules.Rules.{Rules}
 pub use Rattle.script_file.specs.Commands.{IsActOf, IsEventOf}
@@ -17,7 +17,7 @@ pub use Rattle.script_file.specs.Own.{is_event, is_order_of}
 use Rattle.script_file.specs.Words.{AreIssues, IsGateway, gateway_of, next_issues}
 use Rattle.script_file.specs.declared.fault.ScriptFault.{ScriptFault}
 use Rattle.script_file.specs.declared.reader.Said.{Said}
-use Rattle.script_file.specs.declared.reader.Said.TheVariants.{Nothing, Line}
+use Rattle.script_file.specs.declared.reader.Said.TheVariants.{Nothing, Barrier, Line}
 use Rattle.script_file.specs.declared.script.GatewayScriptLine.{GatewayScriptLine}
 use Rattle.script_file.specs.declared.script.Script.{Script}
 use Rattle.script_file.specs.declared.words.Issues.{Issues}
@@ -58,19 +58,20 @@ abbrev pub is_barrier : List (List ℕ) → Bool
 is_barrier (word ∷ []) = bytes_eq word (codes "barrier")
 is_barrier words = false
 
--- what a line with these words says; that a stage ends is not read yet, so `barrier` is an unknown word
+-- what a line with these words says
 unfoldable pub said_by : Rules → List GatewayScriptLine → List (List ℕ) → Result Said LineFault
 said_by rules made words =
     if is_skipped words then Ok Nothing
-    else (if is_barrier words then Err Word else gateway_line rules made words)
+    else (if is_barrier words then Ok Barrier else gateway_line rules made words)
 
 -- what a line with this number says, after the tests that come before its words
 unfoldable pub words_said : Rules → List GatewayScriptLine → ℕ → List ℕ → Result Said LineFault
 words_said rules made number line = checked_words number line >>= said_by rules made
 
--- the script with what its line of this number says
+-- the script with what its line of this number says: a barrier makes no line, and ends the stage that is open
 abbrev pub with_said : Rules → Script → ℕ → Said → Result Script LineFault
 with_said rules script number Nothing = Ok script
+with_said rules script number Barrier = Ok (record script { stages = script.stages + 1 })
 with_said rules script number (Line gateway issues act) = with_lines script (map (line_for script number gateway act) (numbers_of rules issues))
 
 -- the script after a line, or the line's first fault
@@ -91,7 +92,12 @@ script_of rules bytes = read_lines rules (record { lines = []; stages = 1 }) 1 (
 -- what holds of what a line says: its issues, its gateway and its act are of the rules
 abbrev pub IsFor : Rules → Said → Type 0
 IsFor rules Nothing = Unit {0}
+IsFor rules Barrier = Unit {0}
 IsFor rules (Line gateway issues act) = AreIssues rules issues × IsGateway rules gateway × IsActOf rules act
+
+-- a line stands before another: its number is below the other's, or both are of one line and its issue is below the other's
+abbrev pub IsBefore : GatewayScriptLine → GatewayScriptLine → Type 0
+IsBefore a b = (a.line.line < b.line.line) ⊎ ((a.line.line ≡ b.line.line) × (a.line.issue < b.line.issue))
 
 -- what holds of a script that was read
 pub record IsScript (rules : Rules) (script : Script) : Type 0 where
@@ -99,3 +105,7 @@ pub record IsScript (rules : Rules) (script : Script) : Type 0 where
   pub gateways : All (λ (of : GatewayScriptLine). (1 ≤ of.gateway.0) × (of.gateway.0 ≤ length (gateways_in rules))) script.lines
   pub acts : All (λ (of : GatewayScriptLine). IsActOf rules of.line.act) script.lines
   pub few : event_count script.lines ≤ 500000
+  pub stages : AllPairs (λ (a b : GatewayScriptLine). a.line.stage ≤ b.line.stage) script.lines
+  pub below : All (λ (of : GatewayScriptLine). of.line.stage < script.stages) script.lines
+  pub rise : AllPairs IsBefore script.lines
+  pub some : 1 ≤ script.stages

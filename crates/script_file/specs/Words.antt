@@ -69,6 +69,10 @@ next_moment words = do
   moment ← ok_or (time_of word.0) Number
   Ok (moment, word.1)
 
+-- the node that the next word says, 0 to 2, and the words after it
+unfoldable pub next_node : List (List ℕ) → Result (ℕ × List (List ℕ)) LineFault
+next_node words = next_number 0 2 words
+
 -- the own number that the next word says, which is that of an earlier order of the gateway in the issue, and the words after
 -- it
 unfoldable pub next_own : List GatewayScriptLine → Caller → ℕ → List (List ℕ) → Result (ℕ × List (List ℕ)) LineFault

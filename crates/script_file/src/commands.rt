@@ -1,22 +1,27 @@
 // The commands of a gateway, each with the words that follow it.
 ghost use Rattle.std.specs.Prelude.{◌≡◌, ◌<◌, ◌≤◌, IfOk, MatchResult};
 ghost use Rattle.rules_file.specs.Rules.{IsRules};
-ghost use Rattle.script_file.specs.Commands.{IsActOf, act_words, cancel_words, change_words, clock_words, command_of, next_command, order_words};
+ghost use Rattle.script_file.specs.Commands.{IsActOf, act_words, cancel_words, change_words, clock_words, command_of, crash_words, next_command, order_words, rejoin_words, show_words};
 ghost use Rattle.script_file.specs.Words.{AreIssues};
 
 use crate::reader::Reader;
-use crate::words::{Issues, next_kind, next_moment, next_own, next_participant, next_side};
+use crate::words::{
+    Issues, next_kind, next_moment, next_node, next_own, next_participant, next_side,
+};
 use mkt_base::{Act, Caller, Event, Qty};
 use mkt_io::{LineFault, Words, next_number};
 use rules_file::Rules;
 
-// The commands whose words are read.
+// What a gateway's line may ask for.
 #[derive(Clone, Copy)]
 pub(crate) enum Command {
     Order,
     Change,
     Cancel,
     Clock,
+    Crash,
+    Rejoin,
+    Show,
 }
 
 #[inline(always)]
@@ -28,6 +33,9 @@ fn command_of(word: &[u8]) -> Result<Command, LineFault>
         b"change" => Ok(Command::Change),
         b"cancel" => Ok(Command::Cancel),
         b"clock" => Ok(Command::Clock),
+        b"crash" => Ok(Command::Crash),
+        b"rejoin" => Ok(Command::Rejoin),
+        b"show" => Ok(Command::Show),
         _ => Err(LineFault::Word),
     }
 }
@@ -127,6 +135,41 @@ fn clock_words(rules: &Rules, words: &mut Words<'_>) -> Result<Act, LineFault>
     Ok(Act::Do(Event::Clock { at }))
 }
 
+// After `crash`: NODE.
+#[tactic(auto, unfolding(crate::specs::Commands::crash_words))]
+#[inline(always)]
+fn crash_words(rules: &Rules, words: &mut Words<'_>) -> Result<Act, LineFault>
+    ensures exact { result ≡ crash_words words.old }
+    ensures sound { IfOk result (IsActOf rules.now) }
+{
+    let node = next_node(words)?;
+    words.end()?;
+    Ok(Act::Do(Event::Crash { node }))
+}
+
+// After `rejoin`: NODE.
+#[tactic(auto, unfolding(crate::specs::Commands::rejoin_words))]
+#[inline(always)]
+fn rejoin_words(rules: &Rules, words: &mut Words<'_>) -> Result<Act, LineFault>
+    ensures exact { result ≡ rejoin_words words.old }
+    ensures sound { IfOk result (IsActOf rules.now) }
+{
+    let node = next_node(words)?;
+    words.end()?;
+    Ok(Act::Do(Event::Rejoin { node }))
+}
+
+// After `show`: nothing.
+#[tactic(auto, unfolding(crate::specs::Commands::show_words))]
+#[inline(always)]
+fn show_words(rules: &Rules, words: &mut Words<'_>) -> Result<Act, LineFault>
+    ensures exact { result ≡ show_words words.old }
+    ensures sound { IfOk result (IsActOf rules.now) }
+{
+    words.end()?;
+    Ok(Act::Show)
+}
+
 // What the words after a command of a gateway say.
 #[inline(always)]
 pub(crate) fn act_words(
@@ -153,5 +196,8 @@ pub(crate) fn act_words(
         }
         (Command::Order | Command::Change | Command::Cancel, Issues::Each) => Err(LineFault::Issue),
         (Command::Clock, Issues::One(_) | Issues::Each) => clock_words(rules, words),
+        (Command::Crash, Issues::One(_) | Issues::Each) => crash_words(rules, words),
+        (Command::Rejoin, Issues::One(_) | Issues::Each) => rejoin_words(rules, words),
+        (Command::Show, Issues::One(_) | Issues::Each) => show_words(rules, words),
     }
 }

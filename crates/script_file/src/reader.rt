@@ -4,8 +4,8 @@ ghost use Rattle.std.specs.List.{range_with_len};
 ghost use Rattle.rules_file.specs.Rules.{IsRules};
 ghost use Rattle.script_file.specs.Faults.{Fails, at_line};
 ghost use Rattle.script_file.specs.Own.{is_order_of};
-ghost use Rattle.script_file.specs.Reader.{events_of, with_run};
-ghost use Rattle.script_file.specs.Script.{IsFor, IsScript, event_count, is_barrier, line_said, numbers_of, said_by, with_said, words_said};
+ghost use Rattle.script_file.specs.Reader.{IsScriptBefore, events_of, with_run};
+ghost use Rattle.script_file.specs.Script.{IsFor, event_count, is_barrier, line_said, numbers_of, said_by, with_said, words_said};
 ghost use Rattle.script_file.specs.Words.{AreIssues};
 
 use crate::commands::{act_words, next_command};
@@ -27,6 +27,8 @@ const EVENTS_LIMIT: u32 = 500_000;
 pub(crate) enum Said {
     // Nothing: it has no words, or is a comment.
     Nothing,
+    // That a stage ends.
+    Barrier,
     // A gateway does this in these issues.
     Line(Caller, Issues, Act),
 }
@@ -97,10 +99,11 @@ impl Reader {
         number: u32,
         text: &[u8],
     ) -> Result<(), ScriptFault>
-        requires { IsRules rules.now }
+        requires rules { IsRules rules.now }
+        requires before { IsScriptBefore rules.now self.old number }
         ensures exact { MatchResult result (λ _. line_said rules.now self.old number text.now ≡ Ok self.new) (λ fault.
             Fails fault (line_said rules.now self.old number text.now)) }
-        ensures sound { OnOk result (IsScript rules.now self.old → IsScript rules.now self.new) }
+        ensures sound { OnOk result (IsScriptBefore rules.now self.new (number + 1)) }
     {
         match self.read_words(rules, number, text) {
             Ok(said) => self.add(rules, number, &said),
@@ -108,22 +111,55 @@ impl Reader {
         }
     }
 
-    // Adds what a line says. The events are counted before anything is added.
+    // Adds what a line says.
     #[inline(always)]
     fn add(&mut self, rules: &Rules, number: u32, said: &Said) -> Result<(), ScriptFault>
         requires rules { IsRules rules.now }
         requires said { IsFor rules.now said.now }
+        requires stages { self.old.stages ≤ 500000 }
         ensures { MatchResult result (λ _. at_line number (with_said rules.now self.old number said.now) ≡ Ok self.new)
             (λ fault. Fails fault (at_line number (with_said rules.now self.old number said.now))) }
     {
-        let Said::Line(gateway, issues, act) = said else {
-            return Ok(());
-        };
-        let (first, count) = numbers_of(rules, *issues);
+        match said {
+            Said::Nothing => Ok(()),
+            Said::Barrier => {
+                self.end_stage();
+                Ok(())
+            }
+            Said::Line(gateway, issues, act) => {
+                self.add_line(rules, number, *gateway, *issues, act)
+            }
+        }
+    }
+
+    // Ends the stage that is open, and opens the next.
+    fn end_stage(&mut self)
+        requires { self.old.stages ≤ 500000 }
+        ensures { self.new ≡ record self.old { stages = self.old.stages + 1 } }
+    {
+        self.stages += 1;
+    }
+
+    // Adds a gateway's line. Its events are counted before anything is added.
+    #[inline(always)]
+    fn add_line(
+        &mut self,
+        rules: &Rules,
+        number: u32,
+        gateway: Caller,
+        issues: Issues,
+        act: &Act,
+    ) -> Result<(), ScriptFault>
+        requires rules { IsRules rules.now }
+        requires said { IsFor rules.now (Said.Line gateway issues act.now) }
+        ensures { MatchResult result (λ _. at_line number (with_said rules.now self.old number (Said.Line gateway issues act.now)) ≡
+            Ok self.new) (λ fault. Fails fault (at_line number (with_said rules.now self.old number (Said.Line gateway issues act.now)))) }
+    {
+        let (first, count) = numbers_of(rules, issues);
         if self.events + events_of(act, count) > EVENTS_LIMIT {
             return Err(at_line(number, LineFault::TooMany));
         }
-        match self.add_run(number, *gateway, act, first, count) {
+        match self.add_run(number, gateway, act, first, count) {
             Ok(()) => Ok(()),
             Err(_) => Err(ScriptFault::Memory),
         }
@@ -189,7 +225,7 @@ impl Reader {
             return Ok(Said::Nothing);
         };
         if is_barrier(first, words) {
-            return Err(LineFault::Word);
+            return Ok(Said::Barrier);
         }
         let gateway = gateway_of(rules, first)?;
         let issues = next_issues(rules, words)?;

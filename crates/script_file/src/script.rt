@@ -26,7 +26,7 @@ pub struct Script {
     /// The lines of all gateways in their order in the file. A line for all issues stands once for each, in file order of
     /// the issues.
     pub lines: Rows<GatewayScriptLine>,
-    /// How many stages there are, at least 1: the stages of the lines are below it.
+    /// How many stages there are: one more than there are `barrier` lines.
     pub stages: u32,
 }
 

@@ -1,10 +1,10 @@
 // The words of a gateway's line, one after another.
 ghost use Rattle.std.specs.Prelude.{◌≡◌, ◌<◌, ◌≤◌, length, IfOk, IfSome, MatchResult};
 ghost use Rattle.rules_file.specs.Rules.{IsRules, gateways_in, issues_in, participants_in};
-ghost use Rattle.script_file.specs.Words.{AreIssues, IsGateway, gateway_of, issues_of, kind_of, next_issues, next_kind, next_moment, next_own, next_participant, next_side};
+ghost use Rattle.script_file.specs.Words.{AreIssues, IsGateway, gateway_of, issues_of, kind_of, next_issues, next_kind, next_moment, next_node, next_own, next_participant, next_side};
 
 use crate::reader::Reader;
-use mkt_base::{Caller, Kind, Moment, Participant, Price, Side};
+use mkt_base::{Caller, Kind, Moment, NodeNo, Participant, Price, Side};
 use mkt_io::{LineFault, Words, next_number, number_in, side_of, time_word};
 use rules_file::Rules;
 
@@ -128,6 +128,21 @@ pub(crate) fn next_own(
     } else {
         Err(LineFault::Own)
     }
+}
+
+// The node that the next word says.
+#[tactic(auto, unfolding(crate::specs::Words::next_node))]
+#[inline(always)]
+pub(crate) fn next_node(words: &mut Words<'_>) -> Result<NodeNo, LineFault>
+    ensures exact { MatchResult result (λ node. next_node words.old ≡ Ok (node, words.new)) (λ fault. next_node words.old ≡
+        Err fault) }
+    ensures a_node { IfOk result (λ node. node < 3) }
+{
+    let number = next_number(words, 0, 2)?;
+    let Some(node) = NodeNo::new(number as u8) else {
+        unreachable!()
+    };
+    Ok(node)
 }
 
 // The moment that the next word says.

@@ -1,4 +1,9 @@
-mod Examples
-pub mod GrownLemmas
-pub mod JournalLemmas
-pub mod ReplayLemmas
+pub mod ClosingLemmas
+pub mod CountLemmas
+pub mod EachLemmas
+pub mod EnteringLemmas
+pub mod LineLemmas
+pub mod OpeningLemmas
+pub mod ReadLemmas
+pub mod ComingLemmas
+pub mod RunningLemmas

@@ -1,11 +1,11 @@
-//! Runs the lines of a script: what the journals of its issues become.
+//! Runs the lines of a script over issues that keep their journals in the nodes of a rack.
 #![tactic(auto)]
 
+mod closing;
+mod counting;
 mod fault;
-mod growing;
-mod law;
+mod opening;
 mod replay;
 
 pub use fault::RunFault;
-pub use law::replayed_is_run;
-pub use replay::replay_script;
+pub use replay::{Replayed, replay_script};

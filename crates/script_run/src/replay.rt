@@ -1,128 +1,149 @@
 // A script that is replayed: its lines one by one, in file order.
-ghost use Rattle.std.specs.Prelude.{◌≡◌, ℕ, ◌<◌, ◌≤◌, true, length, map, All, IfOk, slice_index_or};
-ghost use Rattle.rules_file.specs.Rules.{IsRules};
-ghost use Rattle.script_file.specs.Script.{IsScript, is_event};
+ghost use Rattle.std.specs.Prelude.{◌≡◌, ◌+◌, ◌<◌, ◌≤◌, [], ◌∷◌, ◌++◌, Some, true, length, filter, slice_get, All, IfOk, OnOk, vec_capacity};
+ghost use Rattle.memory_node.specs.declared.node.Label.{Label};
+ghost use Rattle.rules_file.specs.Rules.{IsRules, issues_in};
+ghost use Rattle.script_file.specs.Script.{IsScript};
 ghost use Rattle.script_file.specs.declared.script.GatewayScriptLine.{GatewayScriptLine};
+ghost use Rattle.issue_machine.specs.Journal.{IsEventOf};
 ghost use Rattle.run_report.specs.Report.{IsRun};
-ghost use Rattle.script_run.specs.Grown.{Growing, all_grown, count_for, counts_for, empty_for, line_done};
-ghost use Rattle.script_run.specs.Run.{ended_with, replayed};
+ghost use Rattle.run_law.specs.Replayed.{IsReplayOf};
+ghost use Rattle.script_run.specs.Entering.{WasEntered};
+ghost use Rattle.script_run.specs.Nodes.{AllGivenBack};
+ghost use Rattle.script_run.specs.Running.{HasPlaceFor, MayDo, WasDone, WasRead, counts_for, read_of, run_of};
+ghost use Rattle.run_law.specs.Run.{is_show};
+ghost use Rattle.issue_journal.specs.Issue.{IssueNow};
 
 use crate::RunFault;
-use crate::growing::GrowingJournal;
-use mkt_base::Act;
+use crate::closing::close_all;
+use crate::counting::{count_events, count_shows};
+use crate::opening::open_all;
+use issue_journal::{Issue, losses_stay_few};
+use memory_node::{MemoryNode, Rack};
+use mkt_base::{Act, Caller, Event, ShowLine, TurnStop};
 use rules_file::Rules;
 use run_report::EndedIssue;
 use script_file::{GatewayScriptLine, Script};
-use std::alloc::{AllocError, Global};
+use std::alloc::Global;
 
-/// The issues of the rules in file order, each with the journal that the lines of the script make of it, in file order. The
-/// time is in proportion to the lines and the issues, and the memory of a journal is taken once. `Memory` comes only where
-/// there is none.
-pub fn replay_script(
+/// What a script that was replayed made: its issues in file order, and its reads of boards in the order of lines.
+#[derive(Debug, Drop)]
+pub struct Replayed {
+    pub issues: Vec<EndedIssue>,
+    pub shows: Vec<ShowLine>,
+}
+
+// An event of a gateway is entered in an issue that has room for it, or that is halted.
+fn enter<N: MemoryNode>(issue: &mut Issue<N>, gateway: Caller, event: &Event)
+    requires gateway { (1 ≤ gateway.0) × (gateway.0 ≤ 16) }
+    requires event { IsEventOf issue.old.fixed.participants event.now }
+    requires place { HasPlaceFor event.now issue.old }
+    ensures { WasEntered gateway event.now issue.old issue.new }
+{
+    let own = issue.next_own(gateway);
+    match issue.turn(gateway, own, *event) {
+        Ok(_) | Err(TurnStop::NoNode) => {}
+        Err(TurnStop::JournalFull { .. }) => unreachable!(),
+    }
+}
+
+// What a gateway reads of an issue's board at a line.
+fn read<N: MemoryNode>(issue: &Issue<N>, of: &GatewayScriptLine) -> ShowLine
+    ensures { result ≡ read_of of.now issue.now }
+{
+    ShowLine {
+        line: of.line.line,
+        gateway: of.gateway,
+        issue: of.line.issue,
+        board: issue.show(),
+    }
+}
+
+// A line is done: its event is entered in its issue, or the issue's board is read.
+fn do_line<N: MemoryNode>(
+    issues: &mut [Issue<N>],
+    of: &GatewayScriptLine,
+    shows: &mut Vec<ShowLine>,
+)
+    requires line { of.now.line.issue < length issues.old }
+    requires gateway { (1 ≤ of.now.gateway.0) × (of.now.gateway.0 ≤ 16) }
+    requires may { (i : IssueNow) → slice_get issues.old of.now.line.issue ≡ Some i → MayDo of.now.gateway of.now.line.act i }
+    requires room { is_show of.now ≡ true → length shows.old.items < vec_capacity shows.old }
+    ensures issues { WasDone of.now of.now.line.act issues.old issues.new }
+    ensures shows { WasRead of.now of.now.line.act issues.old shows.old.items shows.new.items }
+    ensures room { vec_capacity shows.new ≡ vec_capacity shows.old }
+{
+    let at = usize::from(of.line.issue);
+    match &of.line.act {
+        Act::Do(event) => enter(&mut issues[at], of.gateway, event),
+        Act::Show => shows.push_reserved(read(&issues[at], of)),
+    }
+}
+
+// Replays a script over new issues of the rules, in room that was taken for their ends and for the reads of boards.
+fn replay_lines<R: Rack>(
+    alloc: Global,
+    rules: &Rules,
+    rack: &mut R,
+    script: &Script,
+    counts: &[usize],
+    ended: Vec<EndedIssue>,
+    shows: Vec<ShowLine>,
+) -> Result<Replayed, RunFault>
+    requires rules { IsRules rules.now }
+    requires script { IsScript rules.now script.now }
+    requires counts { counts.now ≡ counts_for (length (issues_in rules.now)) script.now.lines }
+    requires none_out { (l : Label) → R.is_out rack.old l → ⊥ }
+    requires ended { (ended.items ≡ []) × (length (issues_in rules.now) ≤ vec_capacity ended) }
+    requires shows { (shows.items ≡ []) × (length (filter is_show script.now.lines) ≤ vec_capacity shows) }
+    ensures printable { IfOk result (λ r. IsRun rules.now (run_of r.issues.items r.shows.items)) }
+    ensures replayed { IfOk result (λ r. IsReplayOf script.now (run_of r.issues.items r.shows.items)) }
+    ensures nodes { IfOk result (λ r. AllGivenBack (R.given rack.new) (run_of r.issues.items r.shows.items)) }
+    ensures back { OnOk result ((l : Label) → R.is_out rack.new l → ⊥) }
+{
+    losses_stay_few();
+    let mut issues = open_all(alloc, rules, rack, counts)?;
+    let mut ended = ended;
+    let mut shows = shows;
+    for of in script.lines.as_slice() {
+        do_line(issues.as_mut_slice(), of, &mut shows);
+    }
+    close_all(rack, issues, &mut ended);
+    Ok(Replayed {
+        issues: ended,
+        shows,
+    })
+}
+
+/// Replays a script: its lines are done one by one in file order, over an issue for each of the rules, whose journal is kept in three nodes
+/// of the rack; at the end all nodes are given back. Nothing of the rack is out before it. A stage's end does nothing here, and a read of a
+/// board is answered at its line, also in an issue that is halted.
+///
+/// The time is in proportion to the lines and the issues; all memory is taken before the first line is done. `Memory` comes only where there
+/// is none, and nodes that were taken by then are not given back.
+pub fn replay_script<R: Rack>(
     alloc: Global,
     rules: &Rules,
     script: &Script,
-) -> Result<Vec<EndedIssue>, RunFault>
+    rack: &mut R,
+) -> Result<Replayed, RunFault>
     requires rules { IsRules rules.now }
     requires script { IsScript rules.now script.now }
-    ensures exact { IfOk result (λ issues. issues.items ≡ (replayed rules.now script.now).issues) }
-    ensures printable { IsRun rules.now (replayed rules.now script.now) }
+    requires none_out { (l : Label) → R.is_out rack.old l → ⊥ }
+    ensures printable { IfOk result (λ r. IsRun rules.now (run_of r.issues.items r.shows.items)) }
+    ensures replayed { IfOk result (λ r. IsReplayOf script.now (run_of r.issues.items r.shows.items)) }
+    ensures nodes { IfOk result (λ r. AllGivenBack (R.given rack.new) (run_of r.issues.items r.shows.items)) }
+    ensures back { OnOk result ((l : Label) → R.is_out rack.new l → ⊥) }
 {
-    // No machine is stepped here: what the journals answer is printed by the report's own machines. Reads of the board and
-    // halts will step one for each issue.
-    match journals_of(alloc, script.lines.as_slice(), usize::from(rules.issues())) {
-        Ok(issues) => Ok(issues),
-        Err(AllocError) => Err(RunFault::Memory),
-    }
-}
-
-// The issues with the journals that the lines make.
-fn journals_of(
-    alloc: Global,
-    lines: &[GatewayScriptLine],
-    issues: usize,
-) -> Result<Vec<EndedIssue>, AllocError>
-    requires issues { All (λ (of : GatewayScriptLine). of.line.issue < issues) lines.now }
-    requires gateways { All (λ (of : GatewayScriptLine). of.gateway.0 < 17) lines.now }
-    requires few { (issue : ℕ) → count_for issue lines.now ≤ 500000 }
-    ensures { IfOk result (λ made. made.items ≡ map (λ (g : Growing). ended_with g.entries) (all_grown issues lines.now (length lines.now))) }
-{
-    let counts = count_events(alloc, lines, issues)?;
-    let mut journals = empty_journals(alloc, counts.as_slice())?;
-    add_lines(journals.as_mut_slice(), lines);
-    end_all(alloc, journals)
-}
-
-// How many events the lines enter in each issue.
-fn count_events(
-    alloc: Global,
-    lines: &[GatewayScriptLine],
-    issues: usize,
-) -> Result<Vec<usize>, AllocError>
-    requires { All (λ (of : GatewayScriptLine). of.line.issue < issues) lines.now }
-    ensures { IfOk result (λ counts. counts.items ≡ counts_for issues lines.now) }
-{
-    let mut counts = vec![in alloc; 0usize; issues]?;
-    for of in lines {
-        if is_event(&of.line.act) {
-            counts[usize::from(of.line.issue)] += 1;
-        }
-    }
-    Ok(counts)
-}
-
-fn is_event(act: &Act) -> bool
-    ensures { result ≡ is_event act.now }
-{
-    match act {
-        Act::Do(_) => true,
-        Act::Show => false,
-    }
-}
-
-// A journal without entries for each count, with room for so many.
-fn empty_journals(alloc: Global, counts: &[usize]) -> Result<Vec<GrowingJournal>, AllocError>
-    requires { All (λ count. count ≤ 500000) counts.now }
-    ensures { IfOk result (λ journals. journals.items ≡ map empty_for counts.now) }
-{
-    let mut journals = Vec::with_capacity(alloc, counts.len())?;
-    for count in counts {
-        journals.push(GrowingJournal::make(alloc, *count)?)?;
-    }
-    Ok(journals)
-}
-
-// Each line's event becomes an entry of its issue's journal.
-fn add_lines(journals: &mut [GrowingJournal], lines: &[GatewayScriptLine])
-    requires issues { All (λ (of : GatewayScriptLine). of.line.issue < length journals.old) lines.now }
-    requires gateways { All (λ (of : GatewayScriptLine). of.gateway.0 < 17) lines.now }
-    requires empty { journals.old ≡ all_grown (length journals.old) lines.now 0 }
-    ensures { journals.new ≡ all_grown (length journals.old) lines.now (length lines.now) }
-{
-    for of in lines {
-        add_line(journals, of);
-    }
-}
-
-fn add_line(journals: &mut [GrowingJournal], of: &GatewayScriptLine)
-    requires issue { of.now.line.issue < length journals.old }
-    requires gateway { of.now.gateway.0 < 17 }
-    requires room { let g = slice_index_or journals.old of.now.line.issue (empty_for 0) in is_event of.now.line.act ≡ true → length g.entries < g.capacity }
-    ensures { journals.new ≡ line_done journals.old of.now }
-{
-    match &of.line.act {
-        Act::Do(event) => journals[usize::from(of.line.issue)].enter(of.gateway, event),
-        Act::Show => {}
-    }
-}
-
-// The issues with their journals as they stand.
-fn end_all(alloc: Global, journals: Vec<GrowingJournal>) -> Result<Vec<EndedIssue>, AllocError>
-    ensures { IfOk result (λ ended. ended.items ≡ map (λ (g : Growing). ended_with g.entries) journals.items) }
-{
-    let mut ended = Vec::with_capacity(alloc, journals.len())?;
-    for journal in journals {
-        ended.push(journal.end())?;
-    }
-    Ok(ended)
+    let lines = script.lines.as_slice();
+    let issues = usize::from(rules.issues());
+    let Ok(counts) = count_events(alloc, lines, issues) else {
+        return Err(RunFault::Memory);
+    };
+    let Ok(ended) = Vec::with_capacity(alloc, issues) else {
+        return Err(RunFault::Memory);
+    };
+    let Ok(shows) = Vec::with_capacity(alloc, count_shows(lines)) else {
+        return Err(RunFault::Memory);
+    };
+    replay_lines(alloc, rules, rack, script, counts.as_slice(), ended, shows)
 }

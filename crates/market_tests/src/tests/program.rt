@@ -2,6 +2,7 @@
 ghost use Rattle.std.specs.Prelude.{◌≡◌, map, string_bytes, IfOk};
 
 use market_top::{file_words, run_market, run_plain};
+use memory_node::MemRack;
 use mkt_io::{MemShelf, MemSink};
 use std::alloc::{AllocError, Global};
 use std::test::Fail;
@@ -68,10 +69,11 @@ pub(super) fn answer_of(
     let mut shelf = MemShelf::new(names, files, fails.shelf.to_vec(alloc)?);
     let mut out = MemSink::make(alloc, 1 << 16, fails.out.to_vec(alloc)?).map_err(|_| "no room")?;
     let mut err = MemSink::make(alloc, 1 << 10, fails.err.to_vec(alloc)?).map_err(|_| "no room")?;
+    let mut rack = MemRack::make(alloc, Vec::new(alloc)).map_err(|_| "no rack")?;
     let status = if fails.by_plain {
-        run_plain(alloc, &words, &mut shelf, &mut out, &mut err)
+        run_plain(alloc, &words, &mut shelf, &mut out, &mut err, &mut rack)
     } else {
-        run_market(alloc, &words, &mut shelf, &mut out, &mut err)
+        run_market(alloc, &words, &mut shelf, &mut out, &mut err, &mut rack)
     };
     Ok(Answer {
         status: status.0,

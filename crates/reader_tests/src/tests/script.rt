@@ -3,6 +3,7 @@ ghost use Rattle.std.specs.Prelude.{IfOk};
 ghost use Rattle.rules_file.specs.Rules.{IsRules};
 
 use mkt_base::{Act, Caller, Event, Kind, Participant, Price, Qty, Side};
+use mkt_io::number_in;
 use rules_file::{Rules, read_rules};
 use script_file::{GatewayScriptLine, Script, ScriptFault, read_script};
 use std::alloc::{AllocError, Global};
@@ -14,18 +15,25 @@ const HEAD: &str =
 const TAIL: &str =
     "[[issue]]\ncode = \"AAAA\"\nbase = 20000\nunit = 100\n[[issue]]\ncode = \"BBBB\"\nbase = 12000\nunit = 100\n";
 
-// Two issues, AAAA and BBBB, three participants, p1 to p3, and these gateways.
-fn rules(alloc: Global, gateways: &str) -> Result<Rules, Fail>
+// Three participants, p1 to p3, and these gateways and issues.
+fn rules_of(alloc: Global, gateways: &str, issues: &str) -> Result<Rules, Fail>
     ensures { IfOk result IsRules }
 {
     let mut text = Vec::new(alloc);
-    for part in [HEAD, gateways, TAIL] {
+    for part in [HEAD, gateways, issues] {
         text.extend_from_slice(part.as_bytes())?;
     }
     match read_rules(alloc, &text) {
         Ok(rules) => Ok(rules),
         Err(_) => Err("the rules are refused")?,
     }
+}
+
+// The same with two issues, AAAA and BBBB.
+fn rules(alloc: Global, gateways: &str) -> Result<Rules, Fail>
+    ensures { IfOk result IsRules }
+{
+    rules_of(alloc, gateways, TAIL)
 }
 
 fn two_gateways(alloc: Global) -> Result<Rules, Fail>
@@ -71,7 +79,9 @@ const FAULTS: &str = "
 1 4: g9 AAAA order p1 buy 20010 500^
 1 4: barrier AAAA order p1 buy 20010 500^
 1 4: G1 AAAA order p1 buy 20010 500
-1 1: barrier^
+1 4: barrier barrier^
+1 4: barrier x^
+1 4: barriers^
 1 1: g1^
 # the issue
 1 3: g1 ZZZZ order p1 buy 20010 500^
@@ -138,11 +148,33 @@ read 1: g1 AAAA order p1 buy 20010 5
 1 2: g1 * clock 8:00:00^
 1 2: g1 AAAA clock 08:00:00.00^
 1 1: g1 AAAA clock 08:00:00 500^
+# a node
+1 1: g1 AAAA crash
+1 1: g1 * crash^
+1 2: g1 AAAA crash 3^
+1 2: g1 * crash 00^
+1 2: g1 AAAA crash x 1
+1 1: g1 AAAA crash 0 x^
+1 1: g1 AAAA crashes 0^
+1 1: g1 AAAA rejoin^
+1 2: g1 * rejoin 3
+1 1: g1 AAAA rejoin 2 2^
+1 1: g1 AAAA rejoins 2^
+read 6: g1 * crash 0^g1 * rejoin 1^g1 AAAA crash 2^g1 BBBB rejoin 0
+# a read of the board
+1 1: g1 AAAA show x^
+1 1: g1 * show 0^
+1 1: g1 AAAA shows^
+1 4: g9 AAAA show^
+1 3: g1 ZZZZ show^
+read 3: g1 AAAA show^\tg1  *  show\t
 # bytes
 1 9: g1 AAAA clock 08:00:00\r\r^
 1 9: # \u{7f}^
 # two faults in a line
 1 4: g9 * foo^
+1 4: g9 ZZZZ show x^
+1 3: g1 ZZZZ crash 3^
 1 3: g1 ZZ foo^
 1 3: g1 ZZZZ order p9 hold x x^
 1 5: g1 AAAA order p9 hold x x^
@@ -154,6 +186,9 @@ read 1: g1 AAAA order p1 buy 20010 5
 2 3: g1 * clock 08:00:00^g1 ZZZZ foo^g9 AAAA foo^
 1 5: g1 AAAA order p9 buy 1 1^g9 AAAA foo^
 3 4: g1 * clock 08:00:00^g1 * clock 08:00:00^g9
+2 4: barrier^g9
+3 4: barrier^ barrier\t ^barrier .
+read 0: barrier^\tbarrier ^^barrier
 ";
 
 // Own numbers, with two gateways, in the same form.
@@ -171,6 +206,19 @@ read 4: g1 AAAA order p1 buy 1 1^g1 AAAA change p1 0 1 1^g1 AAAA order p1 buy 1 
 read 6: g1 * clock 08:00:00^barrier * clock 08:00:00^g1 BBBB order p1 buy 1 1^\tg1 BBBB cancel p1 1
 read 4: barrier * clock 08:00:00^g1 BBBB order p1 buy 1 1^g1 BBBB cancel p1 0
 3 6: g1 * clock 08:00:00^g1 BBBB order p1 buy 1 1^g1 BBBB cancel p1 0
+# a read of the board is no event, and a barrier none either
+read 3: g1 AAAA order p1 buy 1 1^g1 AAAA show^g1 AAAA change p1 0 2 2
+read 6: g1 AAAA show^g1 * show^g1 AAAA order p1 buy 1 1^g1 AAAA show^g1 AAAA cancel p1 0
+3 6: g1 AAAA show^g1 AAAA order p1 buy 1 1^g1 AAAA cancel p1 1
+read 2: g1 AAAA order p1 buy 1 1^barrier^g1 AAAA cancel p1 0
+3 6: barrier^g1 AAAA order p1 buy 1 1^g1 AAAA cancel p1 1
+# a crash and a rejoin are
+2 6: g1 AAAA crash 1^g1 AAAA cancel p1 0
+read 5: g1 * crash 1^g1 AAAA rejoin 2^g1 AAAA order p1 buy 1 1^g1 AAAA cancel p1 2
+# a gateway with the name barrier
+read 3: barrier AAAA clock 08:00:00^barrier^barrier * show
+1 3: barrier barrier^
+1 1: barrier AAAA^
 # another gateway, another issue, a later line
 2 6: g1 AAAA order p1 buy 1 1^barrier AAAA cancel p1 0
 2 6: g1 AAAA order p1 buy 1 1^g1 BBBB cancel p1 0
@@ -239,55 +287,129 @@ fn long(alloc: Global, piece: &str, times: u32, end: &str) -> Result<Vec<u8>, Al
     Ok(text)
 }
 
-// The limits that are not met.
-fn wrong_limits(alloc: Global, rules: &Rules) -> Result<String, Fail>
+// Long scripts, a line each: what the script reads as, and behind a colon how often a piece stands, a star, the piece, a bar, and
+// what stands behind the last piece.
+const LIMITS: &str = "
+read 0: 0*|
+read 0: 500000*^|
+500001 8: 500001*^|
+read 0: 200*#|\r^
+1 7: 201*#|^
+1 7: 201*\u{1}|^g9^
+read 500000: 250000*g1 * clock 08:00:00^|
+250001 8: 250001*g1 * clock 08:00:00^|
+250001 2: 250000*g1 * clock 08:00:00^|g1 AAAA clock 24:00:00
+500000 8: 499999*g1 AAAA order p1 buy 20010 500^|g1 * clock 08:00:00
+";
+
+// The same, with lines that make no event.
+const COUNTS: &str = "
+read 0: 500000*barrier^|
+500001 8: 500001*barrier^|
+250001 8: 250001*g1 * crash 1^|
+read 500002: 250000*g1 * crash 1^|g1 * show
+250002 8: 250000*g1 * crash 1^|barrier^g1 BBBB rejoin 1
+read 1000000: 499999*g1 * show^|g1 * clock 08:00:00
+500001 8: 500001*g1 * show^|
+";
+
+// The script of such a case.
+fn text_of_limit(alloc: Global, text: &str) -> Result<Vec<u8>, Fail> {
+    let Some((times, pieces)) = text.split_once("*") else {
+        return Err("a case without a star")?;
+    };
+    let Some((piece, end)) = pieces.split_once("|") else {
+        return Err("a case without a bar")?;
+    };
+    let Ok(times) = number_in(times.as_bytes(), 0, 1_000_000) else {
+        return Err("a case without a number")?;
+    };
+    let piece = piece.replace(alloc, "^", "\n")?;
+    let end = end.replace(alloc, "^", "\n")?;
+    Ok(long(alloc, piece.as_str(), times, end.as_str())?)
+}
+
+fn told_of_limit(alloc: Global, rules: &Rules, case: &str) -> Result<String, Fail>
     requires { IsRules rules.now }
 {
-    // (a piece, how often it stands, what stands behind it, and what that reads as)
-    let cases: [(&str, u32, &str, &str); 10] = [
-        ("", 0, "", "read 0"),
-        ("\n", 500_000, "", "read 0"),
-        ("\n", 500_001, "", "500001 8"),
-        ("#", 200, "\r\n", "read 0"),
-        ("#", 201, "\n", "1 7"),
-        ("\u{1}", 201, "\ng9\n", "1 7"),
-        ("g1 * clock 08:00:00\n", 250_000, "", "read 500000"),
-        ("g1 * clock 08:00:00\n", 250_001, "", "250001 8"),
-        (
-            "g1 * clock 08:00:00\n",
-            250_000,
-            "g1 AAAA clock 24:00:00",
-            "250001 2",
-        ),
-        (
-            "g1 AAAA order p1 buy 20010 500\n",
-            499_999,
-            "g1 * clock 08:00:00",
-            "500000 8",
-        ),
-    ];
+    let Some((want, text)) = case.split_once(": ") else {
+        return Err("a case without a colon")?;
+    };
+    let text = text_of_limit(alloc, text)?;
+    let told = told(alloc, rules, &text)?;
+    if told.as_str() == want {
+        return Ok(String::new(alloc));
+    }
+    Ok(format!(in alloc; "{told} in place of {case}\n")?)
+}
+
+// The limits that are not met.
+fn wrong_limits(alloc: Global, rules: &Rules, cases: &str) -> Result<String, Fail>
+    requires { IsRules rules.now }
+{
     let mut wrong = String::new(alloc);
-    for (piece, times, end, want) in cases {
-        let text = long(alloc, piece, times, end)?;
-        let told = told(alloc, rules, &text)?;
-        if told.as_str() != want {
-            wrong.push_str(told.as_str())?;
-            wrong.push_str(", wanted ")?;
-            wrong.push_str(want)?;
+    for case in cases.lines() {
+        if !case.is_empty() {
+            wrong.push_str(told_of_limit(alloc, rules, case)?.as_str())?;
         }
     }
     Ok(wrong)
 }
 
-fn wrong_limits_of_two(alloc: Global) -> Result<String, Fail> {
+fn wrong_limits_of_two(alloc: Global, cases: &str) -> Result<String, Fail> {
     let rules = two_gateways(alloc)?;
-    wrong_limits(alloc, &rules)
+    wrong_limits(alloc, &rules, cases)
 }
 
 #[test]
 fn limits(rt: HostRuntime) -> Result<(), Fail> {
-    let wrong = wrong_limits_of_two(rt.alloc())?;
+    let wrong = wrong_limits_of_two(rt.alloc(), LIMITS)?;
     assert_eq!(rt; wrong.as_str(), "");
+    Ok(())
+}
+
+#[test]
+fn counts(rt: HostRuntime) -> Result<(), Fail> {
+    let wrong = wrong_limits_of_two(rt.alloc(), COUNTS)?;
+    assert_eq!(rt; wrong.as_str(), "");
+    Ok(())
+}
+
+// The tables of 64 issues, of the codes A0 to A63.
+fn tables_of_64(alloc: Global) -> Result<String, AllocError> {
+    let mut text = String::new(alloc);
+    for number in 0..64u32 {
+        let issue = format!(in alloc;
+            "[[issue]]\ncode = \"A{number}\"\nbase = 20000\nunit = 100\n"
+        )?;
+        text.push_str(issue.as_str())?;
+    }
+    Ok(text)
+}
+
+fn many_issues(alloc: Global) -> Result<Rules, Fail>
+    ensures { IfOk result IsRules }
+{
+    let tables = tables_of_64(alloc)?;
+    rules_of(alloc, "gateways = [\"g1\"]\n", tables.as_str())
+}
+
+fn told_of_shows(alloc: Global) -> Result<String, Fail> {
+    let rules = many_issues(alloc)?;
+    told_of_long(alloc, &rules)
+}
+
+fn told_of_long(alloc: Global, rules: &Rules) -> Result<String, Fail>
+    requires { IsRules rules.now }
+{
+    let text = long(alloc, "g1 * show\n", 500_000, "")?;
+    Ok(told(alloc, rules, &text)?)
+}
+
+#[test]
+fn shows_of_every_issue(rt: HostRuntime) -> Result<(), Fail> {
+    let told = told_of_shows(rt.alloc())?;
+    assert_eq!(rt; told.as_str(), "read 32000000");
     Ok(())
 }
 
@@ -316,24 +438,44 @@ const WHOLE_LINES: &str = "\
 1
 ";
 
-// The lines of the script, and behind them how many stages it has.
-fn whole_text(alloc: Global) -> Result<String, Fail> {
+const STAGES: &str =
+    "barrier\ng1 * crash 1\n barrier \t\nbarrier BBBB rejoin 2\n# barrier\nbarrier\nbarrier\r\ng1 * show\nbarrier AAAA clock 08:00:00\nbarrier";
+
+const STAGES_LINES: &str = "\
+1 ScriptLine { line: 2, stage: 1, issue: 0, act: Do(Crash { node: NodeNo { n: 1 } }) }
+1 ScriptLine { line: 2, stage: 1, issue: 1, act: Do(Crash { node: NodeNo { n: 1 } }) }
+2 ScriptLine { line: 4, stage: 2, issue: 1, act: Do(Rejoin { node: NodeNo { n: 2 } }) }
+1 ScriptLine { line: 8, stage: 4, issue: 0, act: Show }
+1 ScriptLine { line: 8, stage: 4, issue: 1, act: Show }
+2 ScriptLine { line: 9, stage: 4, issue: 0, act: Do(Clock { at: Moment { ms: 28800000 } }) }
+6
+";
+
+// The lines of a script, and behind them how many stages it has.
+fn text_of_two(alloc: Global, text: &str) -> Result<String, Fail> {
     let rules = two_gateways(alloc)?;
-    text_of(alloc, &rules)
+    text_of(alloc, &rules, text)
 }
 
-fn text_of(alloc: Global, rules: &Rules) -> Result<String, Fail>
+fn text_of(alloc: Global, rules: &Rules, text: &str) -> Result<String, Fail>
     requires { IsRules rules.now }
 {
-    let script = script(alloc, rules, WHOLE.as_bytes()).map_err(|_| "the script is refused")?;
+    let script = script(alloc, rules, text.as_bytes()).map_err(|_| "the script is refused")?;
     let lines = lines_text(alloc, &script)?;
     Ok(format!(in alloc; "{lines}{}\n", script.stages)?)
 }
 
 #[test]
 fn a_script_is_read_whole(rt: HostRuntime) -> Result<(), Fail> {
-    let text = whole_text(rt.alloc())?;
+    let text = text_of_two(rt.alloc(), WHOLE)?;
     assert_eq!(rt; text.as_str(), WHOLE_LINES);
+    Ok(())
+}
+
+#[test]
+fn stages(rt: HostRuntime) -> Result<(), Fail> {
+    let text = text_of_two(rt.alloc(), STAGES)?;
+    assert_eq!(rt; text.as_str(), STAGES_LINES);
     Ok(())
 }
 

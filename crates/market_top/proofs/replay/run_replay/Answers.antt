@@ -12,8 +12,8 @@ pub returns-in-Err : goal.returns-in-Err
 returns-in-Err g c =
     let fault = c.in-Err.fault in
     let files = g.F.Shelf.files c.args.shelf.now in
-    Answered-by _ _ _ _ _ _ _ _ _ _ _ _ _ (unread fault) _
-    (unread-is 1048576 files _ c.args.rules.now (IsReplayVerdict (OnFile 101000000 files _ c.args.script.now)) fault (λ read. c.read_whole.ensures.failed (c.in-Err.is ∙ ap Err read)))
+    Answered-by _ _ _ _ _ _ _ _ _ _ _ _ _ _ _ (unread fault) _
+    (unread-is 1048576 files _ c.args.rules.now (IsReplayVerdict _ _ (OnFile 101000000 files _ c.args.script.now)) fault (λ read. c.read_whole.ensures.failed (c.in-Err.is ∙ ap Err read)))
     (Delivered-told _ _ _ _ (unread fault) _ _ _ _ (unread-out fault) c.tell_unread.ensures) (omega arith)
 
 pub returns-in-Ok-read_rules : goal.returns-in-Ok-read_rules
@@ -22,9 +22,9 @@ returns-in-Ok-read_rules g c =
     let files = g.F.Shelf.files c.args.shelf.now in
     let said : rules_of c.in-Ok.bytes.items ≡ Ok rules = ap rules_of (sym c.deref.ensures.value) ∙ c.in-Ok-read_rules.ensures.exact in
     let verdict = c.replay_under.ensures.verdict in
-    Answered-by _ _ _ _ _ _ _ _ _ _ _ _ _ verdict.0 _
-    (rules-replayed files _ c.args.rules.now (OnFile 101000000 files _ c.args.script.now) c.in-Ok.bytes.items c.in-Ok.ensures.bytes rules verdict.0 said
-    (OnFile-since 101000000 files _ _ _ c.args.script.now (IsScriptVerdict rules) verdict.0 c.read_whole.ensures.files (Rises-since _ _ _ c.read_whole.ensures.count) verdict.1))
+    Answered-by _ _ _ _ _ _ _ _ _ _ _ _ _ _ _ verdict.0 _
+    (rules-replayed _ _ files _ c.args.rules.now (OnFile 101000000 files _ c.args.script.now) c.in-Ok.bytes.items c.in-Ok.ensures.bytes rules verdict.0 said
+    (OnFile-since 101000000 files _ _ _ c.args.script.now (IsScriptVerdict _ _ rules) verdict.0 c.read_whole.ensures.files (Rises-since _ _ _ c.read_whole.ensures.count) verdict.1))
     verdict.2 (omega arith)
 
 pub returns : goal.returns
@@ -32,6 +32,6 @@ returns g c =
     let fault = c.in-Err-read_rules.fault in
     let files = g.F.Shelf.files c.args.shelf.now in
     let fails : Fails fault (rules_of c.in-Ok.bytes.items) = rw (← c.deref.ensures.value) c.in-Err-read_rules.ensures.exact in
-    Answered-by _ _ _ _ _ _ _ _ _ _ _ _ _ (no_rules fault) _
-    (no-rules-replayed files _ c.args.rules.now (OnFile 101000000 files _ c.args.script.now) c.in-Ok.bytes.items c.in-Ok.ensures.bytes fault fails)
+    Answered-by _ _ _ _ _ _ _ _ _ _ _ _ _ _ _ (no_rules fault) _
+    (no-rules-replayed _ _ files _ c.args.rules.now (OnFile 101000000 files _ c.args.script.now) c.in-Ok.bytes.items c.in-Ok.ensures.bytes fault fails)
     (Delivered-told _ _ _ _ (no_rules fault) _ _ _ _ (no-rules-out fault) c.tell_no_rules.ensures) (omega arith)

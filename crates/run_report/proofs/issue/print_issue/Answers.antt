@@ -1,4 +1,4 @@
-use Rattle.std.proofs.Common.{◌≡◌, Some, ap, length, refl, rules, slice_get, sym}
+use Rattle.std.proofs.Common.{◌≡◌, Some, ap, length, refl, slice_get, sym}
 use Rattle.mkt_base.specs.declared.quote.Board.{Board}
 use Rattle.mkt_io.specs.Printed.{before_lines, same_lines}
 use Rattle.rules_file.specs.Rules.{issues_in}
@@ -6,7 +6,7 @@ use Rattle.rules_file.specs.declared.issue.IssueRules.{IssueRules}
 use Rattle.issue_machine.specs.Journal.{new_machine}
 use Rattle.run_report.specs.Issue.{totals_line}
 use Rattle.run_report.specs.declared.ended.EndedIssue.{EndedIssue}
-use Rattle.run_report.proofs.FrontLemmas.{front_all, front_none, front_of_longer, same_front}
+use Rattle.run_report.proofs.FrontLemmas.{front_all, front_of_longer, same_front}
 use Rattle.run_report.proofs.IssueLemmas.{head-printed, machine-made, part-is, totals-are}
 use Rattle.run_report.proofs.issue.print_issue.Goals as goal
 

@@ -1,19 +1,14 @@
-use Rattle.mkt_io.specs.Printed.{before_lines, same_lines}
-use Rattle.run_report.proofs.FrontLemmas.{front_all, front_of_longer, front_then, same_front}
-use Rattle.run_report.proofs.ReportLemmas.{report-is}
+use Rattle.mkt_io.specs.Printed.{before_lines}
+use Rattle.run_report.proofs.FrontLemmas.{front_all, front_of_longer, front_then}
 use Rattle.run_report.proofs.report.print_report.Goals as goal
 
 pub returns-in_err-print_issues-clause-front : goal.returns-in_err-print_issues-clause-front
-returns-in_err-print_issues-clause-front g c =
-    let all = report-is c.args.rules.now (record { issues = c.args.issues.now; shows = c.args._shows.now }) c.requires.run.shows in
-    same_front all (front_of_longer _ (front_then c.print_begin.ensures c.print_issues.ensures.front))
+returns-in_err-print_issues-clause-front g c = front_of_longer _ (front_of_longer _ (front_then c.print_begin.ensures c.print_issues.ensures.front))
 
 pub returns-clause-front : goal.returns-clause-front
 returns-clause-front g c =
-    let all = report-is c.args.rules.now (record { issues = c.args.issues.now; shows = c.args._shows.now }) c.requires.run.shows in
-    front_all (same_lines all (before_lines (before_lines c.print_begin.ensures c.in_ok-print_issues.ensures.whole) c.print_end.ensures))
+    front_all (before_lines (before_lines (before_lines c.print_begin.ensures c.in_ok-print_issues.ensures.whole) c.print_shows.ensures.printed) c.print_end.ensures)
 
 pub returns-clause-whole : goal.returns-clause-whole
 returns-clause-whole g c =
-    let all = report-is c.args.rules.now (record { issues = c.args.issues.now; shows = c.args._shows.now }) c.requires.run.shows in
-    same_lines all (before_lines (before_lines c.print_begin.ensures c.in_ok-print_issues.ensures.whole) c.print_end.ensures)
+    before_lines (before_lines (before_lines c.print_begin.ensures c.in_ok-print_issues.ensures.whole) c.print_shows.ensures.printed) c.print_end.ensures

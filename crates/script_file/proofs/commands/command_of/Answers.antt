@@ -14,3 +14,9 @@ returns-in-cancel c =
     sym
     (ap command_of
     (six-bytes c.args.word.now 99 97 110 99 101 108 (omega arith) (omega arith) (omega arith) (omega arith) (omega arith) (omega arith) (omega arith)))
+
+pub returns-in-rejoin : goal.returns-in-rejoin
+returns-in-rejoin c =
+    sym
+    (ap command_of
+    (six-bytes c.args.word.now 114 101 106 111 105 110 (omega arith) (omega arith) (omega arith) (omega arith) (omega arith) (omega arith) (omega arith)))

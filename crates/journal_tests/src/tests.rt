@@ -1,0 +1,4 @@
+mod adoption;
+mod cases;
+mod issues;
+mod turns;
