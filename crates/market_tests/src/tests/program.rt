@@ -1,9 +1,10 @@
 // The program's calls over files and sinks in memory.
 ghost use Rattle.std.specs.Prelude.{◌≡◌, map, string_bytes, IfOk};
+ghost use Rattle.market_top.specs.Command.{file_words};
 
 use market_top::{file_words, run_market, run_plain};
 use memory_node::MemRack;
-use mkt_io::{MemShelf, MemSink};
+use mkt_io::{MemShelf, MemSink, Shelf};
 use std::alloc::{AllocError, Global};
 use std::test::Fail;
 
@@ -55,6 +56,26 @@ fn copies(alloc: Global, words: &[String]) -> Result<Vec<String>, AllocError>
     Ok(copies)
 }
 
+// The status of a call, over a rack of its own.
+fn status_of(
+    alloc: Global,
+    words: &[String],
+    shelf: &mut MemShelf,
+    out: &mut MemSink,
+    err: &mut MemSink,
+    by_plain: bool,
+) -> Result<u8, Fail>
+    requires { ⟦<MemShelf as Shelf>⟧.names shelf.old ≡ file_words (map string_bytes words.now) }
+{
+    let mut rack = MemRack::make(alloc, Vec::new(alloc)).map_err(|_| "no rack")?;
+    let status = if by_plain {
+        run_plain(alloc, words, shelf, out, err, &mut rack)
+    } else {
+        run_market(alloc, words, shelf, out, err, &mut rack)
+    };
+    Ok(status.0)
+}
+
 // Runs the words over a shelf with the one file `a`.
 pub(super) fn answer_of(
     alloc: Global,
@@ -69,14 +90,16 @@ pub(super) fn answer_of(
     let mut shelf = MemShelf::new(names, files, fails.shelf.to_vec(alloc)?);
     let mut out = MemSink::make(alloc, 1 << 16, fails.out.to_vec(alloc)?).map_err(|_| "no room")?;
     let mut err = MemSink::make(alloc, 1 << 10, fails.err.to_vec(alloc)?).map_err(|_| "no room")?;
-    let mut rack = MemRack::make(alloc, Vec::new(alloc)).map_err(|_| "no rack")?;
-    let status = if fails.by_plain {
-        run_plain(alloc, &words, &mut shelf, &mut out, &mut err, &mut rack)
-    } else {
-        run_market(alloc, &words, &mut shelf, &mut out, &mut err, &mut rack)
-    };
+    let status = status_of(
+        alloc,
+        &words,
+        &mut shelf,
+        &mut out,
+        &mut err,
+        fails.by_plain,
+    )?;
     Ok(Answer {
-        status: status.0,
+        status,
         out: String::from_utf8_lossy(alloc, out.bytes())?,
         err: String::from_utf8_lossy(alloc, err.bytes())?,
     })
