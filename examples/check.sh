@@ -1,6 +1,7 @@
 #!/usr/bin/env bash
 # Holds the auction of each example of one, checks each rules file, replays each day, and compares what is written with what
-# is expected: standard output and standard error together. Ends with status 1 where one differs.
+# is expected: standard output and standard error together. Each stored report of a day is audited, and `yes` is expected.
+# Ends with status 1 where one differs.
 examples=$(cd "$(dirname "$0")" && pwd) || exit 2
 differing=0
 compare() { # EXPECTED WORD..
@@ -13,6 +14,14 @@ compare() { # EXPECTED WORD..
         differing=1
     fi
 }
+audit() { # REPORT
+    if diff <("$examples/../market" audit "$examples/day/rules.toml" "$examples/$1" 2>&1) <(echo yes); then
+        echo "ok audit of $1"
+    else
+        echo "differs audit of $1"
+        differing=1
+    fi
+}
 for file in "$examples"/*.auction; do
     compare "$(basename "$file" .auction).expected" auction "$file"
 done
@@ -21,5 +30,8 @@ for file in "$examples"/*.toml; do
 done
 for file in "$examples"/day/*.txt; do
     compare "day/$(basename "$file" .txt).report" replay "$examples/day/rules.toml" "$file"
+done
+for file in "$examples"/day/*.report; do
+    audit "day/$(basename "$file")"
 done
 exit $differing

@@ -1,4 +1,5 @@
 mod EvenGridLemmas
+mod LeftLemmas
 mod OrderLemmas
 mod ReaderLemmas
 mod SlotLemmas

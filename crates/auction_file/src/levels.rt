@@ -1,5 +1,7 @@
 // The orders of an auction, those of a level as one.
 ghost use Rattle.std.specs.Prelude.{◌≡◌, [], ◌∷◌, ◌++◌, List, IfOk, OnErr, OnOk};
+ghost use Rattle.mkt_base.specs.Book.{total_left};
+ghost use Rattle.mkt_base.specs.Priority.{is_on_level};
 ghost use Rattle.mkt_base.specs.declared.order.Order.{Order};
 ghost use Rattle.auction_file.specs.LevelList.{HasRoom, OneALevel, StandsFor, level_of};
 
@@ -48,6 +50,20 @@ impl Levels {
         ensures one_a_level { OneALevel result.now }
     {
         self.orders.as_slice()
+    }
+
+    /// The shares that the orders of a side have left at a spot.
+    pub fn left(&self, side: Side, spot: Spot) -> u64
+        ensures { result ≡ total_left (is_on_level side spot) self.now.orders }
+    {
+        let level = level_of(side, spot);
+        if level >= self.slots.len() {
+            return 0;
+        }
+        match self.slots[level] {
+            Some(index) => self.orders[index as usize].left,
+            None => 0,
+        }
     }
 
     /// Adds an order to its level. Where there is no memory, nothing changes.

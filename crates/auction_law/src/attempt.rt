@@ -31,8 +31,8 @@ pub fn plain_attempt(orders: &[Order], grid: &[Price], reference: u32, lo: u32, 
     }
 }
 
-// The answer where the chosen price does not lie in the window.
-fn without_trade(orders: &[Order], grid: &[Price], lo: u32, hi: u32) -> Outcome
+/// The answer where the chosen price does not lie in the window of the positions from `lo` to `hi`, both included.
+pub fn without_trade(orders: &[Order], grid: &[Price], lo: u32, hi: u32) -> Outcome
     requires rising { IsRising grid.now }
     requires on_grid { All (λ o. IsOnGrid grid.now o.spot) orders.now }
     requires left { All (λ o. 0 < o.left) orders.now }

@@ -8,7 +8,7 @@ mod law;
 mod nearness;
 mod sums;
 
-pub use attempt::{best_ask, best_bid, plain_attempt};
+pub use attempt::{best_ask, best_bid, plain_attempt, without_trade};
 pub use choice::{chosen_sums, meets};
 pub use law::{
     attempt_is_the_outcome, chosen_is_nearest, levels_answer_alike, meeting_trades_most,

@@ -1,1 +1,1 @@
-mod WalkLemmas
+mod LineLemmas

@@ -1,5 +1,3 @@
 pub use Rattle.mkt_base.specs.Book
 pub use Rattle.mkt_base.specs.Certificate
-pub use Rattle.auction_law.specs.Attempt
-pub use Rattle.auction_law.specs.Nearness
-pub mod Scan
+pub mod Shown

@@ -1,14 +1,14 @@
 -- What the calls of the tests leave of an open book.
-use Rattle.std.proofs.Common.{◌≡◌, ℕ, ◌<◌, ◌≤◌, Bool, true, false, cond, ltb, not, List, [], ◌∷◌, length, map, get_or, Option, Some, None, refl, sym, ◌∙◌, subst, arith}
+use Rattle.std.proofs.Common.{◌≡◌, ℕ, ◌+◌, ◌<◌, ◌≤◌, ◌&&◌, Bool, true, false, cond, eqb, ltb, not, List, [], ◌∷◌, length, map, get_or, Option, Some, None, refl, sym, ◌∙◌, subst, arith}
 use Rattle.std.specs.List.{All, find}
 use Rattle.std.specs.Option.{IfSome, IsSome, option_map}
-use Rattle.std.proofs.lemmas.Bool.{eq-eqb}
-use Rattle.std.proofs.lemmas.List.{get_or-map, length-map}
-use Rattle.std.proofs.lemmas.List.Elements.{All-filter, All-map}
+use Rattle.std.proofs.lemmas.Bool.{eq-eqb, ne_eqb}
+use Rattle.std.proofs.lemmas.List.{get_or-map, length-map, length_push}
+use Rattle.std.proofs.lemmas.List.Elements.{All-filter, All-map, All-push, All-weaker}
 use Rattle.std.proofs.lemmas.List.Sums.{count_by-le-length, length-filter}
 use Rattle.mkt_base.specs.declared.order.Order.{Order}
-use Rattle.book_law.specs.BookView.{BookView, IsLive, Slot, is_at, less_at, less_taken, orders, reduced, taken, without}
-use Rattle.book_tests.specs.Open.{IsOpen}
+use Rattle.book_law.specs.BookView.{BookView, IsFresh, IsInserted, IsLive, IsSpotBelow, NamesFirst, Slot, is_at, is_of, less_at, less_taken, orders, reduced, slot_of, taken, without}
+use Rattle.book_tests.specs.Open.{IsGrowing, IsOpen}
 
 -- the handle of a slot of a list is that of some slot
 module _ (p : Slot → Bool) (h : ℕ) where
@@ -81,3 +81,66 @@ open-taken n place by old new is e prices capacity few =
       places = taken-holds (λ o. o.place < n) place by old new (λ o h. h) e is.places;
       numbers = taken-holds (λ o. o.own < n) place by old new (λ o h. h) e is.numbers;
     }
+
+-- a growing book stays one with fewer shares, and with an order less
+pub growing-reduced : (n h by : ℕ) (b : BookView) → IsGrowing n b → IsGrowing n (reduced h by b)
+growing-reduced n h by b is =
+    let f = less_at h by in
+    record {
+      prices = is.prices;
+      capacity = is.capacity;
+      few = omega (arith, length-map b.slots f, is.few);
+      places = All-map (λ s. s.order.place < n) f b.slots is.places;
+      numbers = All-map (λ s. s.order.own < n) f b.slots is.numbers;
+    }
+
+pub growing-without : (n h : ℕ) (b : BookView) → IsGrowing n b → IsGrowing n (without h b)
+growing-without n h b is =
+    let kept : Slot → Bool = λ s. not (is_at h s) in
+    record {
+      prices = is.prices;
+      capacity = is.capacity;
+      few = omega (arith, length-filter kept b.slots, count_by-le-length kept b.slots, is.few);
+      places = All-filter kept (λ s. s.order.place < n) b.slots is.places;
+      numbers = All-filter kept (λ s. s.order.own < n) b.slots is.numbers;
+    }
+
+-- and with an order more it has grown
+pub growing-more : (n handle : ℕ) (o : Order) (b new : BookView) → IsGrowing n b → o.place ≡ n → o.own ≡ n → IsInserted b o handle new → IsGrowing (n + 1) new
+growing-more n handle o b new is place own inserted =
+    subst (IsGrowing (n + 1)) (sym inserted.slots)
+    (record {
+      prices = is.prices;
+      capacity = is.capacity;
+      few = omega (arith, is.few, length_push b.slots (slot_of handle o));
+      places =
+          All-push (λ s. s.order.place < n + 1) b.slots (slot_of handle o)
+          (All-weaker (λ (s : Slot). s.order.place < n) (λ (s : Slot). s.order.place < n + 1) (λ s less. omega (arith, less)) b.slots is.places) (omega (arith, place));
+      numbers =
+          All-push (λ s. s.order.own < n + 1) b.slots (slot_of handle o)
+          (All-weaker (λ (s : Slot). s.order.own < n) (λ (s : Slot). s.order.own < n + 1) (λ s less. omega (arith, less)) b.slots is.numbers) (omega (arith, own));
+    })
+
+-- the next order is fresh in it
+pub growing-fresh : (n : ℕ) (o : Order) (b : BookView) → IsGrowing n b → n < 600 → o.place ≡ n → o.own ≡ n → 1 ≤ o.left → o.left ≤ 9 → IsSpotBelow 40 o.spot → IsFresh b o
+growing-fresh n o b is few place own some limit spot =
+    record {
+      last = All-weaker (λ (s : Slot). s.order.place < n) (λ (s : Slot). s.order.place < o.place) (λ s less. omega (arith, less, place)) b.slots is.places;
+      pair = All-weaker (λ (s : Slot). s.order.own < n) (λ (s : Slot). is_of o.caller o.own s.order ≡ false) (λ s less. other s.order (omega (arith, less, own))) b.slots is.numbers;
+      room = omega (arith, is.few, is.capacity, few);
+      some = some;
+      limit = omega (arith, limit);
+      spot = subst (λ k. IsSpotBelow k o.spot) (sym is.prices) spot;
+    }
+  where
+    differs : (a b : Bool) → b ≡ false → (a && b) ≡ false
+    differs true b e = e
+    differs false b e = refl
+
+    other : (x : Order) → x.own < o.own → is_of o.caller o.own x ≡ false
+    other x less = differs (eqb o.caller.0 x.caller.0) (eqb o.own x.own) (ne_eqb o.own x.own (λ same. omega (arith, less, same)))
+
+-- the order that a book names next is live
+pub next-live : (b : BookView) (rest : List Order) (found : Option ℕ) → NamesFirst b rest found → IfSome found (λ h. IsLive b h)
+next-live b rest None e = tt
+next-live b rest (Some h) e = subst IsSome (sym e.1) refl

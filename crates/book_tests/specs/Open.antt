@@ -9,3 +9,11 @@ pub record IsOpen (n : ℕ) (b : BookView) : Type 0 where
   pub few : length b.slots ≤ n
   pub places : All (λ s. s.order.place < n) b.slots
   pub numbers : All (λ s. s.order.own < n) b.slots
+
+-- a book of 40 prices for 600 orders, whose places and numbers are below n, and that has no more than n of them
+pub record IsGrowing (n : ℕ) (b : BookView) : Type 0 where
+  pub prices : b.prices ≡ 40
+  pub capacity : b.capacity ≡ 600
+  pub few : length b.slots ≤ n
+  pub places : All (λ s. s.order.place < n) b.slots
+  pub numbers : All (λ s. s.order.own < n) b.slots

@@ -24,6 +24,7 @@ ghost use Rattle.issue_book.specs.Sessions.{around_last, close_at, close_fills, 
 ghost use Rattle.issue_book.specs.State.{start};
 
 use crate::Window;
+use crate::attempts::uncounted;
 use crate::closing::{close_margin, end_of, is_allotted, limit_position};
 use crate::copies::{copied, midnight};
 use crate::handles::handle_of;
@@ -43,7 +44,8 @@ use quote_law::{due_window, position, window};
 use rules_file::Rules;
 use session_phase::Session;
 use std::alloc::Global;
-use std::marker::Model;
+use std::marker::{Brand, Model};
+use std::sync::ledger::Blank;
 use tick_grid::{BandRow, Grid, down, up};
 use zaraba::{Stop, incoming, last_is_near, none_fills_more, sequence_is_beyond, trades_stand};
 
@@ -409,13 +411,7 @@ impl IssueBook {
         requires { IsWindow self.now.terms.grid window.now }
         ensures { IsAnswer self.now window.now result }
     {
-        itayose::attempt(
-            &self.book,
-            &self.grid,
-            window.reference,
-            window.lo,
-            window.hi,
-        )
+        uncounted::<Brand>(&self.book, &self.grid, window, Blank::new(1))
     }
 
     /// Lets an order trade at once with what it crosses, as far as prices reach, and answers why it stopped.

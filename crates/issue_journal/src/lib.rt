@@ -12,6 +12,7 @@ mod reading;
 mod room;
 mod send;
 mod turn;
+mod value;
 mod work;
 
 pub use adopt::NotAdopted;
@@ -19,3 +20,4 @@ pub use fault::RoomFault;
 pub use issue::{Closed, Issue};
 pub use law::losses_stay_few;
 pub use room::IssueRoom;
+pub use value::FixedPart;

@@ -345,4 +345,5 @@ module _ (grid : List Price) (os : List Order) (bid ask : Option ℕ) (bids : Is
     outcome = λ lo hi.
         ap (λ o. outcomes.Calm o (option_map (price_there grid) ask)) (prices-of bid ∙ ap (option_map (λ q. record { 0 = q })) (sym bids.best))
         ∙ ap (outcomes.Calm (best_bid grid os)) (prices-of ask ∙ ap (option_map (λ q. record { 0 = q })) (sym asks.best));
+    unread = refl;
   }

@@ -1,5 +1,5 @@
 -- Worked examples: the definitions compute to what a reader of the rules would say.
-use Rattle.std.specs.Prelude.{◌≡◌, ℕ, List, [], ◌∷◌, refl}
+use Rattle.std.specs.Prelude.{◌≡◌, ℕ, true, false, List, [], ◌∷◌, refl}
 use Rattle.mkt_base.specs.Book.{total_left}
 use Rattle.mkt_base.specs.Fills.{filled_at, from_front, less_front, pair, quantity}
 use Rattle.mkt_base.specs.Priority.{in_priority}
@@ -9,13 +9,18 @@ use Rattle.mkt_base.specs.declared.order.Side.TheVariants.{Buy, Sell}
 use Rattle.mkt_base.specs.declared.order.Spot.{Spot}
 use Rattle.mkt_base.specs.declared.order.Spot.TheVariants.{Market, At}
 use Rattle.mkt_base.specs.declared.units.Price.{Price}
+use Rattle.mkt_base.specs.declared.auction.Sums.{Sums}
 use Rattle.allotment.specs.Allotment.{after_round, allot}
 use Rattle.allotment.specs.declared.demand.Demand.{Demand}
 use Rattle.allotment.specs.declared.round.Round.{Round}
 use Rattle.allotment.specs.declared.round.Round.TheVariants.{Units, Part, All}
 use Rattle.book_law.specs.Paired.{trade_of}
 use Rattle.itayose.specs.Fills.{allotted_fills, auction_fills, demands_by_number}
+use Rattle.depth_index.specs.Depths.{TakesFewSteps}
+use Rattle.itayose.specs.Reads.{MakesReads}
+use Rattle.itayose.specs.Search.{is_past}
 use Rattle.itayose.specs.declared.margin.Margin.TheVariants.{Time, Rounds}
+use Rattle.itayose.specs.declared.search.End.TheVariants.{Lower, Upper}
 
 abbrev price : ℕ → Price
 price n = record { 0 = n }
@@ -58,3 +63,22 @@ allotted_close : allotted_fills three_prices (order_of 0 1 Buy Market 800 ∷ or
     ≡ record { shares = demand 0 1 800 500 ∷ demand 1 2 600 300 ∷ demand 2 3 200 200 ∷ []; trades = trade_of 1020 500 1 4 ∷ trade_of 1020 300 2 4 ∷ trade_of 1020 200 3 4 ∷ [] }
 unfolding total_left in_priority quantity from_front less_front pair filled_at allot after_round demands_by_number
 allotted_close = refl
+
+-- Where 300 are bought and 200 are sold below, the price is not above the run; where 100 are bought it is. Where nothing is sold it
+-- is below the run, though nothing is bought above.
+abbrev sums_of_four : ℕ → ℕ → ℕ → ℕ → Sums
+sums_of_four buys above sells below = record { price = price 1000; buys = buys; above = above; sells = sells; below = below }
+
+not_above_the_run : is_past Upper (sums_of_four 300 0 200 200) ≡ false
+not_above_the_run = refl
+
+above_the_run : is_past Upper (sums_of_four 100 0 200 200) ≡ true
+above_the_run = refl
+
+below_the_run : is_past Lower (sums_of_four 300 0 0 0) ≡ false
+below_the_run = refl
+
+-- two reads of at most four steps over 5 prices
+two_reads : (first : TakesFewSteps 5 0 4) (second : TakesFewSteps 5 4 6) → MakesReads 5 2 0 6
+unfolding MakesReads
+two_reads first second = (4, first, (6, second, refl))

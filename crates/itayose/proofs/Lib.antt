@@ -6,7 +6,9 @@ pub mod BestLemmas
 pub mod FairLemmas
 pub mod FillingLemmas
 pub mod LawLemmas
+pub mod ReadLemmas
 pub mod RoundsLemmas
+pub mod RunLemmas
 pub mod SettleLemmas
 pub mod ShareLemmas
 pub mod SharingLemmas

@@ -1,8 +1,9 @@
 -- The steps of the walk outward from a reference.
-use Rattle.std.proofs.Common.{◌≡◌, ℕ, ◌+◌, ◌-◌, ◌<◌, ◌^◌, List, ◌∷◌, ◌++◌, length, take, drop, take-append-drop, refl, sym, ap, subst, ◌∙◌, arith}
-use Rattle.mkt_base.specs.Book.{FitsSums, IsRising, price_at, total_left}
+use Rattle.std.proofs.Common.{◌≡◌, ℕ, ◌+◌, ◌-◌, ◌<◌, ◌^◌, All, List, ◌∷◌, ◌++◌, length, take, drop, take-append-drop, refl, sym, ap, subst, ◌∙◌, arith}
+use Rattle.mkt_base.specs.Book.{FitsSums, IsOnGrid, IsRising, above, below, buys, price_at, sells, sums_at, total_left}
 use Rattle.mkt_base.specs.Priority.{is_on_level}
 use Rattle.mkt_base.specs.declared.auction.Sums.{Sums}
+use Rattle.mkt_base.specs.declared.order.Order.{Order}
 use Rattle.mkt_base.specs.declared.order.Side.TheVariants.{Buy, Sell}
 use Rattle.mkt_base.specs.declared.order.Spot.TheVariants.{At}
 use Rattle.mkt_base.specs.declared.units.Price.{Price}
@@ -10,56 +11,51 @@ use Rattle.auction_law.specs.Nearness.{IsWalk, by_nearness, prices_of}
 use Rattle.auction_law.proofs.NearnessLemmas.{key-above, nearer-true}
 use Rattle.auction_law.proofs.SumsLemmas.{price-le}
 use Rattle.auction_law.proofs.WalkLemmas.{walk_below}
-use Rattle.book_law.specs.BookView.{BookView, IsBookView, orders}
-use Rattle.itayose.specs.Walk.{sums_of}
-use Rattle.itayose.proofs.SumLemmas.{above-next, buys-fit, buys-level, orders-on_grid, sells-fit, sells-level, sells-next}
+use Rattle.itayose.proofs.SumLemmas.{above-next, buys-fit, buys-level, sells-fit, sells-level, sells-next}
 
 -- the sums at a position i in terms of those at the next one j above it, and the other way round
-pub record AreNeighbours (b : BookView) (grid : List Price) (i j : ℕ) (low high : Sums) : Type 0 where
+pub record AreNeighbours (os : List Order) (i j : ℕ) (low high : Sums) : Type 0 where
   pub above : low.above ≡ high.buys
-  pub buys : low.buys ≡ high.buys + total_left (is_on_level Buy (At i)) (orders b)
+  pub buys : low.buys ≡ high.buys + total_left (is_on_level Buy (At i)) os
   pub sells : low.sells ≡ high.below
-  pub below : high.below ≡ low.below + total_left (is_on_level Sell (At i)) (orders b)
-  pub high_buys : high.buys ≡ high.above + total_left (is_on_level Buy (At j)) (orders b)
-  pub high_sells : high.sells ≡ high.below + total_left (is_on_level Sell (At j)) (orders b)
+  pub below : high.below ≡ low.below + total_left (is_on_level Sell (At i)) os
+  pub high_buys : high.buys ≡ high.above + total_left (is_on_level Buy (At j)) os
+  pub high_sells : high.sells ≡ high.below + total_left (is_on_level Sell (At j)) os
   pub bought : low.buys < 2 ^ 64
   pub sold : high.sells < 2 ^ 64
 
--- what they are
-neighbours : (b : BookView) (grid : List Price) (i : ℕ) → IsBookView b → FitsSums (orders b) → IsRising grid → length grid ≡ b.prices → i + 1 < length grid
-    → AreNeighbours b grid i (i + 1) (sums_of b grid i) (sums_of b grid (i + 1))
-neighbours b grid i is fits rising size h =
-    let on = orders-on_grid b grid is size in
-    let up = above-next grid rising i (omega arith) (orders b) on h in
-    let down = sells-next grid rising i (omega arith) (orders b) on h in
-    record {
-      above = up;
-      buys = buys-level grid rising i (omega arith) (orders b) on ∙ ap (λ n. n + total_left (is_on_level Buy (At i)) (orders b)) up;
-      sells = sym down;
-      below = down ∙ sells-level grid rising i (omega arith) (orders b) on;
-      high_buys = buys-level grid rising (i + 1) h (orders b) on;
-      high_sells = sells-level grid rising (i + 1) h (orders b) on;
-      bought = buys-fit grid (orders b) (price_at grid i) fits;
-      sold = sells-fit grid (orders b) (price_at grid (i + 1)) fits;
-    }
+module _ (grid : List Price) (os : List Order) (on : All (λ o. IsOnGrid grid o.spot) os) (fits : FitsSums os) (rising : IsRising grid) where
+  -- what they are
+  neighbours : (i : ℕ) → i + 1 < length grid → AreNeighbours os i (i + 1) (sums_at grid os (price_at grid i)) (sums_at grid os (price_at grid (i + 1)))
+  neighbours i h =
+      let up = above-next grid rising i (omega arith) os on h in
+      let down = sells-next grid rising i (omega arith) os on h in
+      record {
+        above = up;
+        buys = buys-level grid rising i (omega arith) os on ∙ ap (λ n. n + total_left (is_on_level Buy (At i)) os) up;
+        sells = sym down;
+        below = down ∙ sells-level grid rising i (omega arith) os on;
+        high_buys = buys-level grid rising (i + 1) h os on;
+        high_sells = sells-level grid rising (i + 1) h os on;
+        bought = buys-fit grid os (price_at grid i) fits;
+        sold = sells-fit grid os (price_at grid (i + 1)) fits;
+      }
 
--- the same where the upper sums are given, or the lower
-pub with_upper : (b : BookView) (grid : List Price) (i : ℕ) (high : Sums) → IsBookView b → FitsSums (orders b) → IsRising grid → length grid ≡ b.prices → i + 1 < length grid
-    → high ≡ sums_of b grid (i + 1) → AreNeighbours b grid i (i + 1) (sums_of b grid i) high
-with_upper b grid i high is fits rising size h e = subst (AreNeighbours b grid i (i + 1) (sums_of b grid i)) (sym e) (neighbours b grid i is fits rising size h)
+  -- the same where the upper sums are given, or the lower
+  pub with_upper : (i : ℕ) (high : Sums) → i + 1 < length grid → high ≡ sums_at grid os (price_at grid (i + 1)) → AreNeighbours os i (i + 1) (sums_at grid os (price_at grid i)) high
+  with_upper i high h e = subst (AreNeighbours os i (i + 1) (sums_at grid os (price_at grid i))) (sym e) (neighbours i h)
 
--- and so from the lower one
-pub with_lower : (b : BookView) (grid : List Price) (i : ℕ) (low : Sums) → IsBookView b → FitsSums (orders b) → IsRising grid → length grid ≡ b.prices → 0 < i → i < length grid
-    → low ≡ sums_of b grid (i - 1) → AreNeighbours b grid (i - 1) i low (sums_of b grid i)
-with_lower b grid i low is fits rising size some h e =
-    let up : i - 1 + 1 ≡ i = omega arith in
-    subst (λ s. AreNeighbours b grid (i - 1) i s (sums_of b grid i)) (sym e)
-    (subst (λ j. AreNeighbours b grid (i - 1) j (sums_of b grid (i - 1)) (sums_of b grid j)) up (neighbours b grid (i - 1) is fits rising size (omega arith)))
+  -- and so from the lower one
+  pub with_lower : (i : ℕ) (low : Sums) → 0 < i → i < length grid → low ≡ sums_at grid os (price_at grid (i - 1)) → AreNeighbours os (i - 1) i low (sums_at grid os (price_at grid i))
+  with_lower i low some h e =
+      let up : i - 1 + 1 ≡ i = omega arith in
+      subst (λ s. AreNeighbours os (i - 1) i s (sums_at grid os (price_at grid i))) (sym e)
+      (subst (λ j. AreNeighbours os (i - 1) j (sums_at grid os (price_at grid (i - 1))) (sums_at grid os (price_at grid j))) up (neighbours (i - 1) (omega arith)))
 
 -- sums are equal by their parts
-pub same_sums : (b : BookView) (grid : List Price) (i : ℕ) (s : Sums) → s.price.0 ≡ price_at grid i → s.buys ≡ (sums_of b grid i).buys → s.above ≡ (sums_of b grid i).above
-    → s.sells ≡ (sums_of b grid i).sells → s.below ≡ (sums_of b grid i).below → s ≡ sums_of b grid i
-same_sums b grid i s p x y z w = λ k. record { price = record { 0 = p k }; buys = x k; above = y k; sells = z k; below = w k }
+pub same_sums : (grid : List Price) (os : List Order) (i : ℕ) (s : Sums) → s.price.0 ≡ price_at grid i → s.buys ≡ buys grid os (price_at grid i) → s.above ≡ above grid os (price_at grid i)
+    → s.sells ≡ sells grid os (price_at grid i) → s.below ≡ below grid os (price_at grid i) → s ≡ sums_at grid os (price_at grid i)
+same_sums grid os i s p x y z w = λ k. record { price = record { 0 = p k }; buys = x k; above = y k; sells = z k; below = w k }
 
 -- a walk begins at its reference, the nearest of all
 pub begins : (grid : List Price) (i : ℕ) → IsRising grid → i < length grid

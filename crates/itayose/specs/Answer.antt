@@ -16,6 +16,7 @@ use Rattle.mkt_base.specs.declared.output.Output.TheVariants.{Auction, Rejected,
 use Rattle.mkt_base.specs.declared.units.Price.{Price}
 use Rattle.auction_law.specs.Attempt.{best_ask, best_bid, certificate_of, is_calm, nearer_prices}
 use Rattle.book_law.specs.BookView.{BookView, side_of}
+use Rattle.itayose.specs.Reads.{least_reads}
 use Rattle.itayose.specs.declared.positions.Attempt.{Attempt}
 use Rattle.itayose.specs.declared.positions.Attempt.TheVariants.{Traded, Calm, Pressed}
 
@@ -41,6 +42,7 @@ pub record IsCalmAnswer (grid : List Price) (os : List Order) (answer : Attempt)
   pub calm : is_calm grid os ≡ true
   pub positions : IsOnPositions grid answer
   pub outcome : (lo hi : ℕ) → outcome_of grid os lo hi answer ≡ outcomes.Calm (best_bid grid os) (best_ask grid os)
+  pub unread : least_reads answer ≡ 0
 
 -- the sums that the certificate of an answer rejects: where it trades, those of the prices nearer than the chosen one
 abbrev pub rejected_for : List Price → List Order → ℕ → Attempt → List Sums

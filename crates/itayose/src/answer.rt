@@ -1,24 +1,36 @@
 // The attempt on a book.
-ghost use Rattle.std.specs.Prelude.{◌≡◌, ◌≢◌, ℕ, ◌<◌, ◌≤◌, true, false, IfSome, IsSome, IsTrue, List, MatchOption, Some, length, min, option_map};
+ghost use Rattle.std.specs.Prelude.{◌≡◌, ◌≢◌, ℕ, ◌+◌, ◌*◌, ◌^◌, ◌<◌, ◌≤◌, true, false, IfSome, IsTrue, List, MatchOption, Some, length, min, option_map};
 ghost use Rattle.mkt_base.specs.Book.{IsRising, price_at};
 ghost use Rattle.mkt_base.specs.declared.order.Spot.{Spot};
 ghost use Rattle.mkt_base.specs.declared.units.Price.{Price};
-ghost use Rattle.auction_law.specs.Attempt.{attempt as attempt_outcome, chosen, crosses, is_calm, meets, traded_outcome};
+ghost use Rattle.auction_law.specs.Attempt.{attempt as attempt_outcome, chosen, crosses, is_calm, is_traded, meets, traded_outcome};
 ghost use Rattle.book_law.specs.BookView.{IsGridOf, orders};
 ghost use Rattle.itayose.specs.declared.positions.Attempt.{Attempt};
 ghost use Rattle.itayose.specs.Answer.{IsCalmAnswer, IsOnPositions, best_spot, outcome_of, position_of};
+ghost use Rattle.itayose.specs.Reads.{ReadsWithin, least_reads};
 
 use crate::Attempt;
-use crate::outward::Outward;
-use crate::telling::sums_there;
-use auction_law::meets;
+use crate::search::{End, first_past, sums_counted};
+use depth_index::Steps;
 use mkt_base::{Side, Spot, Sums};
 use order_book::Book;
+use std::sync::ledger::Ledger;
 use tick_grid::Grid;
 
 /// What an attempt with the reference at this position answers over the window of the positions from `lo` to `hi`, both
 /// included. The book is over as many prices as the grid has.
-pub fn attempt(book: &Book, grid: &Grid, reference: u32, lo: u32, hi: u32) -> Attempt
+///
+/// Where it trades, a search over the book's sums finds both ends of the run of prices that meet the conditions, and the price of
+/// the run that is nearest the reference is taken. With d the number of binary digits of the number of prices, one attempt makes
+/// at most 4 * d + 8 sum reads, and each takes at most d + 1 of the steps that are counted.
+pub fn attempt<L: Ledger>(
+    book: &Book,
+    grid: &Grid,
+    reference: u32,
+    lo: u32,
+    hi: u32,
+    steps: &mut Steps<L>,
+) -> Attempt
     requires size { length grid.now ≡ book.now.prices }
     requires lo { lo ≤ reference }
     requires hi { reference ≤ hi }
@@ -27,25 +39,28 @@ pub fn attempt(book: &Book, grid: &Grid, reference: u32, lo: u32, hi: u32) -> At
     ensures answer { outcome_of grid.now (orders book.now) lo hi result
         ≡ attempt_outcome grid.now (orders book.now) (price_at grid.now reference) (price_at grid.now lo) (price_at grid.now hi) }
     ensures meets { (at volume : ℕ) → result ≡ Attempt.Traded at volume → IsTrue (meets grid.now (orders book.now) (price_at grid.now at)) }
+    ensures reads { (digits : ℕ) → book.now.prices < 2 ^ digits
+        → ReadsWithin book.now.prices (least_reads result) (4 * digits + 8) steps.old steps.new }
+    ensures steps { (digits : ℕ) → book.now.prices < 2 ^ digits → steps.new ≤ steps.old + (4 * digits + 8) * (digits + 1) }
 {
     book.stands();
     grid.stands();
     if let Some(calm) = calm(book) {
         return calm;
     }
-    let high = sums_there(book, grid, hi);
+    let high = sums_counted(book, grid, hi, steps);
     if high.above > high.sells {
         return Attempt::Pressed(Side::Buy);
     }
-    let low = sums_there(book, grid, lo);
+    let low = sums_counted(book, grid, lo, steps);
     if low.below > low.buys {
         return Attempt::Pressed(Side::Sell);
     }
-    chosen(book, grid, reference)
+    chosen(book, grid, reference, lo, hi, steps)
 }
 
 // The best limits of a book that has no market order and no limit buy at or above a limit sell; none of any other.
-fn calm(book: &Book) -> Option<Attempt>
+pub(crate) fn calm(book: &Book) -> Option<Attempt>
     ensures { (grid : List Price) → IsGridOf book.now grid
         → MatchOption result (is_calm grid (orders book.now) ≡ false) (IsCalmAnswer grid (orders book.now)) }
 {
@@ -90,31 +105,36 @@ fn best_spot(book: &Book, side: Side) -> Option<Spot>
     }
 }
 
-// The nearest price that meets the three conditions, where there is one.
-fn chosen(book: &Book, grid: &Grid, reference: u32) -> Attempt
+// The price of the run that is nearest to the reference, where an attempt trades in the window.
+fn chosen<L: Ledger>(
+    book: &Book,
+    grid: &Grid,
+    reference: u32,
+    lo: u32,
+    hi: u32,
+    steps: &mut Steps<L>,
+) -> Attempt
     requires size { length grid.now ≡ book.now.prices }
-    requires in_range { reference < length grid.now }
-    requires some { IsSome (chosen grid.now (orders book.now) (price_at grid.now reference)) }
+    requires lo { lo ≤ reference }
+    requires hi { reference ≤ hi }
+    requires in_range { hi < length grid.now }
+    requires traded { IsTrue (is_traded grid.now (orders book.now) (price_at grid.now reference) (price_at grid.now lo) (price_at grid.now hi)) }
     ensures positions { IsOnPositions grid.now result }
-    ensures answer { (lo hi p : ℕ) → chosen grid.now (orders book.now) (price_at grid.now reference) ≡ Some p
+    ensures answer { (p : ℕ) → chosen grid.now (orders book.now) (price_at grid.now reference) ≡ Some p
         → outcome_of grid.now (orders book.now) lo hi result ≡ traded_outcome grid.now (orders book.now) p }
+    ensures trades { least_reads result ≡ 6 }
+    ensures reads { (digits : ℕ) → book.now.prices < 2 ^ digits → ReadsWithin book.now.prices 2 (4 * digits + 2) steps.old steps.new }
 {
     grid.stands();
-    let sums = sums_there(book, grid, reference);
-    if meets(&sums) {
-        return traded(reference, &sums);
-    }
-    let mut rest = Outward::new(book, grid, reference, sums);
-    while let Some((at, sums)) = rest.next() {
-        if meets(&sums) {
-            return traded(at, &sums);
-        }
-    }
-    unreachable!()
+    let first = first_past(book, grid, End::Lower, lo, hi, steps);
+    let past = first_past(book, grid, End::Upper, first + 1, hi + 1, steps);
+    let at = reference.min(past - 1).max(first);
+    let sums = sums_counted(book, grid, at, steps);
+    traded(at, &sums)
 }
 
 // The volume at a position of these sums.
-fn traded(at: u32, sums: &Sums) -> Attempt
+pub(crate) fn traded(at: u32, sums: &Sums) -> Attempt
     ensures { result ≡ Attempt.Traded at (min sums.now.buys sums.now.sells) }
 {
     Attempt::Traded {

@@ -7,8 +7,10 @@ mod filling;
 mod law;
 mod margin;
 mod outward;
+mod plain;
 mod positions;
 mod rounds;
+mod search;
 mod settling;
 mod sharing;
 mod telling;
@@ -20,6 +22,7 @@ pub use law::{
     volume_is_traded,
 };
 pub use margin::Margin;
+pub use plain::plain_attempt;
 pub use positions::Attempt;
 pub use settling::{settle, share_out};
 pub use telling::certificate;

@@ -10,6 +10,7 @@ ghost use Rattle.itayose.specs.Walk.{sums_of};
 
 use crate::Attempt;
 use crate::outward::Outward;
+use crate::search::sums_with;
 use auction_law::meets;
 use mkt_base::{Outcome, Price, Side, Sums, Watch};
 use order_book::Book;
@@ -78,13 +79,7 @@ pub(crate) fn sums_there(book: &Book, grid: &Grid, i: u32) -> Sums
 {
     grid.stands();
     let levels = book.sums_at(i);
-    Sums {
-        price: grid.price(i),
-        buys: levels.buys,
-        above: levels.above,
-        sells: levels.sells,
-        below: levels.below,
-    }
+    sums_with(grid.price(i), &levels)
 }
 
 // Tells a watch the prices that the certificate of an attempt rejects, with their sums.

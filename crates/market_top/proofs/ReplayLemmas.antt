@@ -17,41 +17,45 @@ use Rattle.script_file.specs.declared.script.Script.{Script}
 use Rattle.mkt_base.specs.declared.script.ShowLine.{ShowLine}
 use Rattle.memory_node.specs.Given.{Given}
 use Rattle.memory_node.specs.declared.node.Label.{Label}
-use Rattle.run_report.specs.Report.{IsRun, Run, report_text}
+use Rattle.run_report.specs.Report.{IsRun, Run}
 use Rattle.script_run.specs.Running.{run_of}
 use Rattle.run_report.specs.Reported.{Reports}
 use Rattle.run_report.specs.declared.ended.EndedIssue.{EndedIssue}
 use Rattle.run_report.specs.declared.ended.ReportFault.{ReportFault}
 use Rattle.market_top.specs.Check.{OnRules, no_rules, refused_rules}
-use Rattle.market_top.specs.Replay.{IsReplayVerdict, IsReplayed, IsScriptVerdict, OnScript, cut_report, no_script, reported, status_of}
+use Rattle.script_file.specs.Generated.{generated}
+use Rattle.market_top.specs.Made.{IsMadeUnder}
+use Rattle.market_top.specs.Replay.{IsReplayed, IsScriptVerdict, OnScript, cut_report, no_script, reported, status_of, text_of}
+use Rattle.market_top.specs.declared.extent.Extent.{Extent}
+use Rattle.market_top.specs.declared.extent.Extent.TheVariants.{Totals, Whole}
 use Rattle.market_top.specs.Verdict.{Delivered, IsRead, OnFile, Told, Verdict, no_memory}
 use Rattle.market_top.proofs.VerdictLemmas.{Appends-nothing, AppendsPart-nothing}
 
-module _ {O E : Type 0} (out : O → Option (List ℕ)) (out_faults : O → ℕ) (err : E → Option (List ℕ)) (err_faults : E → ℕ) (rules : Rules) (run : Run) (o o' : O) (count : out_faults o ≤ out_faults o') where
+module _ {O E : Type 0} (out : O → Option (List ℕ)) (out_faults : O → ℕ) (err : E → Option (List ℕ)) (err_faults : E → ℕ) (extent : Extent) (rules : Rules) (run : Run) (o o' : O) (count : out_faults o ≤ out_faults o') where
   -- the report is written
-  pub Delivered-reported : (e : E) (status : ℕ) → status ≡ status_of run.issues → Appends (out o) (out o') (report_text rules run) → Delivered out out_faults err err_faults (reported rules run) o e o' e status
+  pub Delivered-reported : (e : E) (status : ℕ) → status ≡ status_of run.issues → Appends (out o) (out o') (text_of extent rules run) → Delivered out out_faults err err_faults (reported extent rules run) o e o' e status
   Delivered-reported e status is written = record { answer = inl (is, written, Appends-nothing (err e)); out_count = count; err_count = omega arith }
 
   -- the sink failed
-  pub Delivered-not_reported : (e : E) → Rises (out_faults o) (out_faults o') → AppendsPart (out o) (out o') (report_text rules run) → Delivered out out_faults err err_faults (reported rules run) o e o' e 4
+  pub Delivered-not_reported : (e : E) → Rises (out_faults o) (out_faults o') → AppendsPart (out o) (out o') (text_of extent rules run) → Delivered out out_faults err err_faults (reported extent rules run) o e o' e 4
   Delivered-not_reported e failed part = record { answer = inr (refl, inl failed, part, AppendsPart-nothing (err e) []); out_count = count; err_count = omega arith }
 
   -- there was no memory once a front part was written
-  pub Delivered-cut : (e e' : E) (answered written : ℕ) → Appends (out o) (out o') (take written (report_text rules run)) → Told err err_faults no_memory.err 5 e e' answered
-      → Delivered out out_faults err err_faults (cut_report rules run written) o e o' e' answered
+  pub Delivered-cut : (e e' : E) (answered written : ℕ) → Appends (out o) (out o') (take written (text_of extent rules run)) → Told err err_faults no_memory.err 5 e e' answered
+      → Delivered out out_faults err err_faults (cut_report extent rules run written) o e o' e' answered
   Delivered-cut e e' answered written part told = record { answer = by told.answer; out_count = count; err_count = told.count }
     where
       front : List ℕ
-      front = take written (report_text rules run)
+      front = take written (text_of extent rules run)
 
-      whole : AppendsPart (out o) (out o') (take written (report_text rules run))
+      whole : AppendsPart (out o) (out o') (take written (text_of extent rules run))
       whole =
-          let all : take (length (take written (report_text rules run))) (take written (report_text rules run)) ≡ take written (report_text rules run) = take_all _ (take written (report_text rules run)) (omega arith) in
-          (length (take written (report_text rules run)), omega arith, subst (λ (text : List ℕ). Appends (out o) (out o') text) (sym all) part)
+          let all : take (length (take written (text_of extent rules run))) (take written (text_of extent rules run)) ≡ take written (text_of extent rules run) = take_all _ (take written (text_of extent rules run)) (omega arith) in
+          (length (take written (text_of extent rules run)), omega arith, subst (λ (text : List ℕ). Appends (out o) (out o') text) (sym all) part)
 
       by : ((answered ≡ 5) × Appends (err e) (err e') no_memory.err) ⊎ ((answered ≡ 4) × Rises (err_faults e) (err_faults e') × AppendsPart (err e) (err e') no_memory.err)
-          → ((answered ≡ 5) × Appends (out o) (out o') (take written (report_text rules run)) × Appends (err e) (err e') no_memory.err)
-          ⊎ ((answered ≡ 4) × (Rises (out_faults o) (out_faults o') ⊎ Rises (err_faults e) (err_faults e')) × AppendsPart (out o) (out o') (take written (report_text rules run)) × AppendsPart (err e) (err e') no_memory.err)
+          → ((answered ≡ 5) × Appends (out o) (out o') (take written (text_of extent rules run)) × Appends (err e) (err e') no_memory.err)
+          ⊎ ((answered ≡ 4) × (Rises (out_faults o) (out_faults o') ⊎ Rises (err_faults e) (err_faults e')) × AppendsPart (out o) (out o') (take written (text_of extent rules run)) × AppendsPart (err e) (err e') no_memory.err)
       by (inl all) = inl (all.0, part, all.1)
       by (inr some) = inr (some.0, inr some.1, whole, some.2)
 
@@ -64,33 +68,46 @@ no-script-out Memory = refl
 pub no-script-is : (is_out : Label → Type 0) (given : Label → Option Given) (files : Option (List ℕ → Option (List ℕ))) (shelf_failed : Type 0) (name : List ℕ) (rules : Rules) (fault : ScriptFault) (bytes : List ℕ)
     → IsRead 101000000 files name bytes → FailsScript fault (script_of rules bytes) → OnFile 101000000 files shelf_failed name (IsScriptVerdict is_out given rules) (no_script fault)
 no-script-is is_out given files shelf_failed name rules (At number fault) bytes read fails =
-    let P : Result Script ScriptFault → Type 0 = λ said. OnScript said (IsReplayed is_out given rules) (no_script (At number fault)) in
+    let P : Result Script ScriptFault → Type 0 = λ said. OnScript said (IsReplayed Whole is_out given rules) (no_script (At number fault)) in
     inr (inr (bytes, read, subst P (sym fails) refl))
 no-script-is is_out given files shelf_failed name rules Memory bytes read fails = inr (inl refl)
 
 -- a script that is replayed
 pub script-is : (is_out : Label → Type 0) (given : Label → Option Given) (files : Option (List ℕ → Option (List ℕ))) (shelf_failed : Type 0) (name : List ℕ) (rules : Rules) (script : Script) (bytes : List ℕ) (v : Verdict)
-    → IsRead 101000000 files name bytes → script_of rules bytes ≡ Ok script → IsReplayed is_out given rules script v → OnFile 101000000 files shelf_failed name (IsScriptVerdict is_out given rules) v
+    → IsRead 101000000 files name bytes → script_of rules bytes ≡ Ok script → IsReplayed Whole is_out given rules script v → OnFile 101000000 files shelf_failed name (IsScriptVerdict is_out given rules) v
 script-is is_out given files shelf_failed name rules script bytes v read said is =
-    let P : Result Script ScriptFault → Type 0 = λ read. OnScript read (IsReplayed is_out given rules) v in
+    let P : Result Script ScriptFault → Type 0 = λ read. OnScript read (IsReplayed Whole is_out given rules) v in
     inr (inr (bytes, read, subst P (sym said) is))
 
-module _ (is_out : Label → Type 0) (given : Label → Option Given) (files : Option (List ℕ → Option (List ℕ))) (shelf_failed : Type 0) (rules_name : List ℕ) (on_script : (List ℕ → Verdict → Type 0) → Verdict → Type 0) (bytes : List ℕ) (read : IsRead 1048576 files rules_name bytes) where
+module _ (files : Option (List ℕ → Option (List ℕ))) (shelf_failed : Type 0) (name : List ℕ) (on : Rules → Verdict → Type 0) (bytes : List ℕ) (read : IsRead 1048576 files name bytes) where
   -- the rules are refused, or there is no memory for them
-  pub no-rules-replayed : (fault : RulesFault) → Fails fault (rules_of bytes) → OnFile 1048576 files shelf_failed rules_name (IsReplayVerdict is_out given on_script) (no_rules fault)
-  no-rules-replayed rules_faults.Memory fails = inr (inl refl)
-  no-rules-replayed fault fails = inr (inr (bytes, read, refused fault fails))
+  pub no-rules-on : (fault : RulesFault) → Fails fault (rules_of bytes) → OnFile 1048576 files shelf_failed name (λ said. OnRules (rules_of said) on) (no_rules fault)
+  no-rules-on rules_faults.Memory fails = inr (inl refl)
+  no-rules-on fault fails = inr (inr (bytes, read, refused fault fails))
     where
-      refused : (f : RulesFault) → rules_of bytes ≡ Err f → IsReplayVerdict is_out given on_script bytes (refused_rules f)
+      refused : (f : RulesFault) → rules_of bytes ≡ Err f → OnRules (rules_of bytes) on (refused_rules f)
       refused f said =
-          let P : Result Rules RulesFault → Type 0 = λ read. OnRules read (λ rules. on_script (IsScriptVerdict is_out given rules)) (refused_rules f) in
+          let P : Result Rules RulesFault → Type 0 = λ read. OnRules read on (refused_rules f) in
           subst P (sym said) refl
 
-  -- the rules are read, and the script under them
-  pub rules-replayed : (rules : Rules) (v : Verdict) → rules_of bytes ≡ Ok rules → on_script (IsScriptVerdict is_out given rules) v → OnFile 1048576 files shelf_failed rules_name (IsReplayVerdict is_out given on_script) v
-  rules-replayed rules v said is =
-      let P : Result Rules RulesFault → Type 0 = λ read. OnRules read (λ rules. on_script (IsScriptVerdict is_out given rules)) v in
+  -- the rules are read, and there is a verdict under them
+  pub rules-on : (rules : Rules) (v : Verdict) → rules_of bytes ≡ Ok rules → on rules v → OnFile 1048576 files shelf_failed name (λ said. OnRules (rules_of said) on) v
+  rules-on rules v said is =
+      let P : Result Rules RulesFault → Type 0 = λ read. OnRules read on v in
       inr (inr (bytes, read, subst P (sym said) is))
+
+-- what is read of a script that is made
+module _ (is_out : Label → Type 0) (given : Label → Option Given) (number orders : ℕ) (rules : Rules) where
+  pub no-script-made : (fault : ScriptFault) → FailsScript fault (script_of rules (generated number orders)) → IsMadeUnder is_out given number orders rules (no_script fault)
+  no-script-made (At line fault) fails =
+      let P : Result Script ScriptFault → Type 0 = λ said. OnScript said (IsReplayed Totals is_out given rules) (no_script (At line fault)) in
+      inr (subst P (sym fails) refl)
+  no-script-made Memory fails = inl refl
+
+  pub script-made : (script : Script) (v : Verdict) → script_of rules (generated number orders) ≡ Ok script → IsReplayed Totals is_out given rules script v → IsMadeUnder is_out given number orders rules v
+  script-made script v said is =
+      let P : Result Script ScriptFault → Type 0 = λ said. OnScript said (IsReplayed Totals is_out given rules) v in
+      inr (subst P (sym said) is)
 
 -- what holds of a file that is read later holds from the call's begin on
 pub OnFile-since : (limit : ℕ) (files now : Option (List ℕ → Option (List ℕ))) (later failed : Type 0) (name : List ℕ) (on : List ℕ → Verdict → Type 0) (v : Verdict) → now ≡ files → (later → failed)
@@ -107,12 +124,12 @@ Rises-since from old new before (inl more) = inl (omega arith)
 Rises-since from old new before (inr last) = inr last
 
 -- what is said of the report of what is lent is said of the run's
-pub Reports-run : {O : Type 0} (contents : O → Option (List ℕ)) (faults : O → ℕ) (old new : O) (result : Result (Unit {0}) ReportFault) (rules : Rules) (issues lent_issues : List EndedIssue) (shows lent_shows : List ShowLine)
-    → lent_issues ≡ issues → lent_shows ≡ shows → Reports contents faults old (report_text rules (run_of lent_issues lent_shows)) new result
-    → Reports contents faults old (report_text rules (run_of issues shows)) new result
-Reports-run contents faults old new result rules issues lent_issues shows lent_shows same_issues same_shows told =
-    let by_issues = subst (λ (es : List EndedIssue). Reports contents faults old (report_text rules (run_of es lent_shows)) new result) same_issues told in
-    subst (λ (ss : List ShowLine). Reports contents faults old (report_text rules (run_of issues ss)) new result) same_shows by_issues
+pub Reports-run : {O : Type 0} (contents : O → Option (List ℕ)) (faults : O → ℕ) (old new : O) (result : Result (Unit {0}) ReportFault) (extent : Extent) (rules : Rules) (issues lent_issues : List EndedIssue) (shows lent_shows : List ShowLine)
+    → lent_issues ≡ issues → lent_shows ≡ shows → Reports contents faults old (text_of extent rules (run_of lent_issues lent_shows)) new result
+    → Reports contents faults old (text_of extent rules (run_of issues shows)) new result
+Reports-run contents faults old new result extent rules issues lent_issues shows lent_shows same_issues same_shows told =
+    let by_issues = subst (λ (es : List EndedIssue). Reports contents faults old (text_of extent rules (run_of es lent_shows)) new result) same_issues told in
+    subst (λ (ss : List ShowLine). Reports contents faults old (text_of extent rules (run_of issues ss)) new result) same_shows by_issues
 
 -- a run that may be printed, of what is lent
 pub IsRun-lent : (rules : Rules) (issues lent_issues : List EndedIssue) (shows lent_shows : List ShowLine) → lent_issues ≡ issues → lent_shows ≡ shows → IsRun rules (run_of issues shows) → IsRun rules (run_of lent_issues lent_shows)

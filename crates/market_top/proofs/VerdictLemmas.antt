@@ -23,7 +23,15 @@ use Rattle.script_file.specs.declared.fault.ScriptFault.TheVariants.{At, Memory 
 use Rattle.script_file.specs.declared.script.Script.{Script}
 use Rattle.market_top.specs.Auction.{IsAuctionVerdict, IsFileVerdict, certified}
 use Rattle.market_top.specs.Check.{IsCheckVerdict, OnRules, no_rules, refused_rules, tabled}
-use Rattle.market_top.specs.Command.{Asked, auction, check, replay}
+use Rattle.script_file.specs.Generated.{generated}
+use Rattle.market_top.specs.Command.{Asked, auction, audit, check, gen, replay, replay_made}
+use Rattle.audit.specs.Reports.{IsVerdict as IsTextVerdict}
+use Rattle.text_match.specs.declared.matcher.Verdict as text
+use Rattle.text_match.specs.declared.matcher.Verdict.TheVariants.{No, Yes}
+use Rattle.market_top.specs.Audit.{IsAuditVerdict, IsAuditedUnder, audited}
+use Rattle.market_top.specs.Made.{IsMadeUnder, IsMadeVerdict, made}
+use Rattle.market_top.specs.declared.extent.Extent.{Extent}
+use Rattle.market_top.specs.declared.extent.Extent.TheVariants.{Totals, Whole}
 use Rattle.market_top.specs.Program.{Answered, IsVerdict}
 use Rattle.run_report.specs.declared.ended.EndedIssue.{EndedIssue}
 use Rattle.market_top.specs.Replay.{IsReplayVerdict, IsReplayed, IsReported, IsScriptVerdict, OnScript, has_node, status_of}
@@ -80,7 +88,7 @@ module _ {O E : Type 0} (out : O → Option (List ℕ)) (out_faults : O → ℕ)
 
 -- what follows from a verdict's status
 record IsCaused (asked : Option Asked) (shelf_failed : Type 0) (status : ℕ) : Type 0 where
-  known : status ≤ 6
+  known : status ≤ 7
   not_4 : status ≡ 4 → ⊥
   words : status ≡ 2 → asked ≡ None
   reading : status ≡ 3 → shelf_failed
@@ -92,8 +100,8 @@ AnswersBytes on = (bytes : List ℕ) (v : Verdict) → on bytes v → v.status �
 caused-done : (asked : Option Asked) (shelf_failed : Type 0) (v : Verdict) → v.status ≤ 1 → IsCaused asked shelf_failed v.status
 caused-done asked shelf_failed v few = record { known = omega arith; not_4 = λ s. absurd (omega arith); words = λ s. absurd (omega arith); reading = λ s. absurd (omega arith) }
 
--- or there was no memory, or an issue is halted
-caused-late : (asked : Option Asked) (shelf_failed : Type 0) (v : Verdict) → 5 ≤ v.status → v.status ≤ 6 → IsCaused asked shelf_failed v.status
+-- or there was no memory, or an issue is halted, or a text is no report
+caused-late : (asked : Option Asked) (shelf_failed : Type 0) (v : Verdict) → 5 ≤ v.status → v.status ≤ 7 → IsCaused asked shelf_failed v.status
 caused-late asked shelf_failed v least most = record { known = omega arith; not_4 = λ s. absurd (omega arith); words = λ s. absurd (omega arith); reading = λ s. absurd (omega arith) }
 
 caused-no_memory : (asked : Option Asked) (shelf_failed : Type 0) (v : Verdict) → v ≡ no_memory → IsCaused asked shelf_failed v.status
@@ -134,26 +142,54 @@ status-known issues = by (list_all has_node issues)
     by true = inl refl
     by false = inr refl
 
-script-caused : (asked : Option Asked) (shelf_failed : Type 0) (is_out : Label → Type 0) (given : Label → Option Given) (rules : Rules) (read : Result Script ScriptFault) (v : Verdict)
-    → OnScript read (IsReplayed is_out given rules) v → IsCaused asked shelf_failed v.status
-script-caused asked shelf_failed is_out given rules (Err (At number fault)) v is = let one : v.status ≡ 1 = ap (λ (w : Verdict). w.status) is in caused-done asked shelf_failed v (omega arith)
-script-caused asked shelf_failed is_out given rules (Err NoMemory) v is = caused-no_memory asked shelf_failed v is
-script-caused asked shelf_failed is_out given rules (Ok script) v (inl is) = caused-no_memory asked shelf_failed v is
-script-caused asked shelf_failed is_out given rules (Ok script) v (inr is) = by is.2
+-- a report that is audited
+audited-caused : (asked : Option Asked) (shelf_failed : Type 0) (rules : Rules) (bytes : List ℕ) (v : Verdict) → IsAuditedUnder rules bytes v → IsCaused asked shelf_failed v.status
+audited-caused asked shelf_failed rules bytes v (inl long) = let one : v.status ≡ 1 = ap (λ (w : Verdict). w.status) long.1 in caused-done asked shelf_failed v (omega arith)
+audited-caused asked shelf_failed rules bytes v (inr rest) = by rest.1
+  where
+    told : (answer : text.Verdict) → v ≡ audited answer → IsCaused asked shelf_failed v.status
+    told Yes is = let zero : v.status ≡ 0 = ap (λ (w : Verdict). w.status) is in caused-done asked shelf_failed v (omega arith)
+    told (No line) is = let seven : v.status ≡ 7 = ap (λ (w : Verdict). w.status) is in caused-late asked shelf_failed v (omega arith) (omega arith)
+
+    by : (v ≡ no_memory) ⊎ ((answer : text.Verdict) × IsTextVerdict rules bytes answer × (v ≡ audited answer)) → IsCaused asked shelf_failed v.status
+    by (inl is) = caused-no_memory asked shelf_failed v is
+    by (inr said) = told said.0 said.2
+
+audit-caused : (asked : Option Asked) (files : Option (List ℕ → Option (List ℕ))) (shelf_failed : Type 0) (report : List ℕ) (read : Result Rules RulesFault) (v : Verdict)
+    → OnRules read (λ rules. OnFile 268435456 files shelf_failed report (IsAuditedUnder rules)) v → IsCaused asked shelf_failed v.status
+audit-caused asked files shelf_failed report (Err fault) v is = let one : v.status ≡ 1 = ap (λ (w : Verdict). w.status) is in caused-done asked shelf_failed v (omega arith)
+audit-caused asked files shelf_failed report (Ok rules) v is =
+    caused-within asked 268435456 files shelf_failed report (IsAuditedUnder rules) (λ bytes w said. audited-caused asked shelf_failed rules bytes w said) v is
+
+-- what is told of a run
+script-caused : (asked : Option Asked) (shelf_failed : Type 0) (extent : Extent) (is_out : Label → Type 0) (given : Label → Option Given) (rules : Rules) (read : Result Script ScriptFault) (v : Verdict)
+    → OnScript read (IsReplayed extent is_out given rules) v → IsCaused asked shelf_failed v.status
+script-caused asked shelf_failed extent is_out given rules (Err (At number fault)) v is = let one : v.status ≡ 1 = ap (λ (w : Verdict). w.status) is in caused-done asked shelf_failed v (omega arith)
+script-caused asked shelf_failed extent is_out given rules (Err NoMemory) v is = caused-no_memory asked shelf_failed v is
+script-caused asked shelf_failed extent is_out given rules (Ok script) v (inl is) = caused-no_memory asked shelf_failed v is
+script-caused asked shelf_failed extent is_out given rules (Ok script) v (inr is) = by is.2
   where
     whole-run : v.status ≡ status_of is.0.issues → (status_of is.0.issues ≡ 0) ⊎ (status_of is.0.issues ≡ 6) → IsCaused asked shelf_failed v.status
     whole-run same (inl zero) = caused-done asked shelf_failed v (omega (arith, same, zero))
     whole-run same (inr six) = caused-late asked shelf_failed v (omega (arith, same, six)) (omega (arith, same, six))
 
-    by : IsReported rules is.0 v → IsCaused asked shelf_failed v.status
+    by : IsReported extent rules is.0 v → IsCaused asked shelf_failed v.status
     by (inl whole) = whole-run (ap (λ (w : Verdict). w.status) whole) (status-known is.0.issues)
     by (inr part) = let five : v.status ≡ 5 = ap (λ (w : Verdict). w.status) part.1 in caused-late asked shelf_failed v (omega arith) (omega arith)
+
+-- a script that is made
+made-caused : (asked : Option Asked) (shelf_failed : Type 0) (is_out : Label → Type 0) (given : Label → Option Given) (number orders : ℕ) (read : Result Rules RulesFault) (v : Verdict)
+    → OnRules read (IsMadeUnder is_out given number orders) v → IsCaused asked shelf_failed v.status
+made-caused asked shelf_failed is_out given number orders (Err fault) v is = let one : v.status ≡ 1 = ap (λ (w : Verdict). w.status) is in caused-done asked shelf_failed v (omega arith)
+made-caused asked shelf_failed is_out given number orders (Ok rules) v (inl is) = caused-no_memory asked shelf_failed v is
+made-caused asked shelf_failed is_out given number orders (Ok rules) v (inr is) =
+    script-caused asked shelf_failed Totals is_out given rules (script_of rules (generated number orders)) v is
 
 replay-caused : (asked : Option Asked) (files : Option (List ℕ → Option (List ℕ))) (shelf_failed : Type 0) (is_out : Label → Type 0) (given : Label → Option Given) (script : List ℕ) (read : Result Rules RulesFault) (v : Verdict)
     → OnRules read (λ rules. OnFile 101000000 files shelf_failed script (IsScriptVerdict is_out given rules)) v → IsCaused asked shelf_failed v.status
 replay-caused asked files shelf_failed is_out given script (Err fault) v is = let one : v.status ≡ 1 = ap (λ (w : Verdict). w.status) is in caused-done asked shelf_failed v (omega arith)
 replay-caused asked files shelf_failed is_out given script (Ok rules) v is =
-    caused-within asked 101000000 files shelf_failed script (IsScriptVerdict is_out given rules) (λ bytes w said. script-caused asked shelf_failed is_out given rules (script_of rules bytes) w said) v is
+    caused-within asked 101000000 files shelf_failed script (IsScriptVerdict is_out given rules) (λ bytes w said. script-caused asked shelf_failed Whole is_out given rules (script_of rules bytes) w said) v is
 
 caused : (asked : Option Asked) (files : Option (List ℕ → Option (List ℕ))) (shelf_failed : Type 0) (is_out : Label → Type 0) (given : Label → Option Given) (v : Verdict)
     → IsVerdict asked files shelf_failed is_out given v → IsCaused asked shelf_failed v.status
@@ -168,6 +204,14 @@ caused (Some (check rules)) files shelf_failed is_out given v is =
 caused (Some (replay rules script)) files shelf_failed is_out given v is =
     caused-within _ 1048576 files shelf_failed rules (IsReplayVerdict is_out given (OnFile 101000000 files shelf_failed script))
     (λ bytes w said. replay-caused _ files shelf_failed is_out given script (rules_of bytes) w said) v is
+caused (Some (replay_made number orders rules)) files shelf_failed is_out given v is =
+    caused-within _ 1048576 files shelf_failed rules (IsMadeVerdict is_out given number orders)
+    (λ bytes w said. made-caused _ shelf_failed is_out given number orders (rules_of bytes) w said) v is
+caused (Some (audit rules report)) files shelf_failed is_out given v is =
+    caused-within _ 1048576 files shelf_failed rules (IsAuditVerdict (OnFile 268435456 files shelf_failed report))
+    (λ bytes w said. audit-caused _ files shelf_failed report (rules_of bytes) w said) v is
+caused (Some (gen number orders)) files shelf_failed is_out given v is =
+    let zero : v.status ≡ 0 = ap (λ (w : Verdict). w.status) is in caused-done _ shelf_failed v (omega arith)
 
 -- rules that are read have their tables as the verdict
 pub good-rules : (bytes : List ℕ) (rules : Rules) → rules_of bytes ≡ Ok rules → IsCheckVerdict bytes (tabled rules)
@@ -246,3 +290,8 @@ module _ {F O E : Type 0} (files : F → Option (List ℕ → Option (List ℕ))
         writing = λ s. part.1;
         shelf_count = count;
       }
+
+-- the script that is made of a number is the verdict on its command
+pub gen-is : (asked : Option Asked) (files : Option (List ℕ → Option (List ℕ))) (shelf_failed : Type 0) (is_out : Label → Type 0) (given : Label → Option Given) (number orders : ℕ)
+    → asked ≡ Some (gen number orders) → IsVerdict asked files shelf_failed is_out given (made number orders)
+gen-is asked files shelf_failed is_out given number orders is = subst (λ (a : Option Asked). IsVerdict a files shelf_failed is_out given (made number orders)) (sym is) refl

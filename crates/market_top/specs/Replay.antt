@@ -20,10 +20,13 @@ use Rattle.issue_machine.specs.History.{nodes_after}
 use Rattle.run_law.specs.Replayed.{IsReplayOf}
 use Rattle.run_law.specs.Run.{IsRunOf}
 use Rattle.run_report.specs.Report.{Run, report_text}
+use Rattle.run_report.specs.Summed.{totals_text}
 use Rattle.run_report.specs.declared.ended.EndedIssue.{EndedIssue}
 use Rattle.script_run.specs.Nodes.{AllGivenBack}
 use Rattle.market_top.specs.Check.{OnRules}
 use Rattle.market_top.specs.Verdict.{Verdict, no_memory}
+use Rattle.market_top.specs.declared.extent.Extent.{Extent}
+use Rattle.market_top.specs.declared.extent.Extent.TheVariants.{Totals, Whole}
 
 -- the line of a script's first fault
 abbrev pub script_fault_line : ℕ → ℕ → List ℕ
@@ -47,17 +50,22 @@ has_node ended = has_synchronised (nodes_left ended.journal ended.halt)
 unfoldable pub status_of : List EndedIssue → ℕ
 status_of issues = if list_all has_node issues then 0 else 6
 
--- the report of a run
-abbrev pub reported : Rules → Run → Verdict
-reported rules run = record { status = status_of run.issues; out = report_text rules run; err = [] }
+-- what is told of a run: its whole report, or of that the totals of its issues and the last line
+unfoldable pub text_of : Extent → Rules → Run → List ℕ
+text_of Whole rules run = report_text rules run
+text_of Totals rules run = totals_text rules run.issues
+
+-- the report of a run, to this extent
+abbrev pub reported : Extent → Rules → Run → Verdict
+reported extent rules run = record { status = status_of run.issues; out = text_of extent rules run; err = [] }
 
 -- there was no memory once so many bytes of the report were written
-abbrev pub cut_report : Rules → Run → ℕ → Verdict
-cut_report rules run written = record { status = 5; out = take written (report_text rules run); err = line (codes "memory" ∷ []) }
+abbrev pub cut_report : Extent → Rules → Run → ℕ → Verdict
+cut_report extent rules run written = record { status = 5; out = take written (text_of extent rules run); err = line (codes "memory" ∷ []) }
 
 -- a run is reported, or the memory gave out
-abbrev pub IsReported : Rules → Run → Verdict → Type 0
-IsReported rules run v = (v ≡ reported rules run) ⊎ ((written : ℕ) × (v ≡ cut_report rules run written))
+abbrev pub IsReported : Extent → Rules → Run → Verdict → Type 0
+IsReported extent rules run v = (v ≡ reported extent rules run) ⊎ ((written : ℕ) × (v ≡ cut_report extent rules run written))
 
 -- How a script was replayed: its lines were done in file order, so that it is a run of the script; and the nodes of each issue were given
 -- back as they stood at its end, with no node left out.
@@ -68,8 +76,8 @@ pub record IsReplay (is_out : Label → Type 0) (given : Label → Option Given)
   pub back : (l : Label) → is_out l → ⊥
 
 -- the script is replayed and its run reported; or there was no memory for it
-abbrev pub IsReplayed : (Label → Type 0) → (Label → Option Given) → Rules → Script → Verdict → Type 0
-IsReplayed is_out given rules script v = (v ≡ no_memory) ⊎ ((run : Run) × IsReplay is_out given rules script run × IsReported rules run v)
+abbrev pub IsReplayed : Extent → (Label → Type 0) → (Label → Option Given) → Rules → Script → Verdict → Type 0
+IsReplayed extent is_out given rules script v = (v ≡ no_memory) ⊎ ((run : Run) × IsReplay is_out given rules script run × IsReported extent rules run v)
 
 -- a script that is refused is told its first fault; on any other there is a verdict
 abbrev pub OnScript : Result Script ScriptFault → (Script → Verdict → Type 0) → Verdict → Type 0
@@ -78,7 +86,7 @@ OnScript (Ok script) on v = on script v
 
 -- the verdict on the bytes of a script, under rules
 abbrev pub IsScriptVerdict : (Label → Type 0) → (Label → Option Given) → Rules → List ℕ → Verdict → Type 0
-IsScriptVerdict is_out given rules bytes v = OnScript (script_of rules bytes) (IsReplayed is_out given rules) v
+IsScriptVerdict is_out given rules bytes v = OnScript (script_of rules bytes) (IsReplayed Whole is_out given rules) v
 
 -- the verdict on the bytes of a rules file, where the script is read under the rules
 abbrev pub IsReplayVerdict : (Label → Type 0) → (Label → Option Given) → ((List ℕ → Verdict → Type 0) → Verdict → Type 0) → List ℕ → Verdict → Type 0

@@ -9,9 +9,10 @@ ghost use Rattle.market_top.specs.Auction.{IsAuctionVerdict, IsFileVerdict, faul
 ghost use Rattle.market_top.specs.Verdict.{Delivered, OnFile, Told, Verdict, no_memory};
 
 use crate::program::{Status, tell, tell_unread};
+use auction_check::CertificateFault;
 use auction_file::AuctionFile;
-use auction_law::plain_attempt;
 use auction_report::write_certificate;
+use level_auction::gather;
 use mkt_io::{LineFault, Printer, Shelf, Sink, TextFault, WriteFault, read_whole};
 use std::alloc::Global;
 
@@ -43,7 +44,7 @@ pub(crate) fn run_auction<F: Shelf, O: Sink, E: Sink>(
     }
 }
 
-// Writes the certificate of an auction that was read. The orders of a level stand together as one there, which answers
+// Gathers the certificate of an auction that was read, and writes it. The orders of a level stand together as one there, which answers
 // as all of them do.
 fn hold_auction<O: Sink, E: Sink>(
     alloc: Global,
@@ -60,10 +61,11 @@ fn hold_auction<O: Sink, E: Sink>(
         return tell(err, "memory\n", Status::NO_MEMORY);
     };
     let prices = grid.as_slice();
-    let orders = file.levels.as_slice();
-    let last = file.grid.count() - 1;
-    let outcome = plain_attempt(orders, prices, file.reference, 0, last);
-    match write_certificate(out, orders, prices, file.reference, &outcome) {
+    let certificate = match gather(alloc, &file.levels, prices, file.reference) {
+        Ok(certificate) => certificate,
+        Err(CertificateFault::Memory) => return tell(err, "memory\n", Status::NO_MEMORY),
+    };
+    match write_certificate(out, &certificate) {
         Ok(()) => Status::DONE,
         Err(WriteFault) => Status::NOT_WRITTEN,
     }

@@ -2,8 +2,11 @@
 #![tactic(auto)]
 
 mod auction;
+mod auditing;
 mod check;
 mod command;
+mod extent;
+mod made;
 mod program;
 mod replay;
 

@@ -6,15 +6,18 @@ ghost use Rattle.market_top.specs.Program.{Answered};
 ghost use Rattle.market_top.specs.Verdict.{Told, unread};
 
 use crate::auction::run_auction;
+use crate::auditing::run_audit;
 use crate::check::run_check;
 use crate::command::{Command, command_of};
+use crate::made::{run_gen, run_made};
 use crate::replay::run_replay;
 use memory_node::Rack;
 use mkt_io::{ReadFault, Shelf, Sink, WriteFault, write_all};
 use std::alloc::Global;
 
 /// The exit status of a call: 0 done, 1 the file is refused, 2 the words are refused, 3 the file was not
-/// read, 4 a text was not written, 5 there was no memory, 6 done, but an issue is halted.
+/// read, 4 a text was not written, 5 there was no memory, 6 done, but an issue is halted, 7 the text that is
+/// audited is no report of the rules.
 #[derive(Clone, Copy, Debug, PartialEq, Eq)]
 pub struct Status(pub u8);
 
@@ -33,6 +36,9 @@ impl Status {
 
     /// All is done and written; an issue lost its last synchronised node.
     pub const HALTED: Status = Status(6);
+
+    /// The text is no report of the rules.
+    pub const NO_REPORT: Status = Status(7);
 }
 
 const USAGE: &str =
@@ -79,6 +85,15 @@ pub fn run_plain<F: Shelf, O: Sink, E: Sink, R: Rack>(
         Some(Command::Replay { rules, script }) => {
             run_replay(alloc, rules, script, shelf, out, err, rack)
         }
+        Some(
+            Command::ReplayMade {
+                number,
+                orders,
+                rules,
+            },
+        ) => run_made(alloc, number, orders, rules, shelf, out, err, rack),
+        Some(Command::Audit { rules, report }) => run_audit(alloc, rules, report, shelf, out, err),
+        Some(Command::Gen { number, orders }) => run_gen(number, orders, out),
         None => tell(err, USAGE, Status::REFUSED_WORDS),
     }
 }

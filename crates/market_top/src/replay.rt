@@ -17,12 +17,13 @@ ghost use Rattle.market_top.specs.Replay.{IsReplayed, IsReported, IsScriptVerdic
 ghost use Rattle.market_top.specs.Verdict.{Delivered, OnFile, Told, Verdict};
 
 use crate::check::{RULES_LIMIT, tell_no_rules};
+use crate::extent::{Extent, write_run};
 use crate::program::{Status, tell, tell_unread};
 use memory_node::Rack;
 use mkt_io::{Printer, Shelf, Sink, WriteFault, read_whole};
 use rules_file::{Rules, read_rules};
 use run_law::replay_is_run;
-use run_report::{EndedIssue, ReportFault, write_report};
+use run_report::{EndedIssue, ReportFault};
 use script_file::{Script, ScriptFault, read_script};
 use script_run::{Replayed, RunFault, replay_script};
 use std::alloc::Global;
@@ -81,16 +82,17 @@ fn replay_under<F: Shelf, O: Sink, E: Sink, R: Rack>(
         Err(fault) => return tell_unread(err, fault),
     };
     match read_script(alloc, &bytes, rules) {
-        Ok(script) => report_script(alloc, rules, &script, out, err, rack),
+        Ok(script) => report_script(alloc, rules, &script, Extent::Whole, out, err, rack),
         Err(fault) => tell_no_script(err, fault),
     }
 }
 
-// Replays a script that was read, and writes its report. Its nodes are back in the rack before anything is written.
-fn report_script<O: Sink, E: Sink, R: Rack>(
+// Replays a script that was read, and tells its run to this extent. Its nodes are back in the rack before anything is written.
+pub(crate) fn report_script<O: Sink, E: Sink, R: Rack>(
     alloc: Global,
     rules: &Rules,
     script: &Script,
+    extent: Extent,
     out: &mut O,
     err: &mut E,
     rack: &mut R,
@@ -98,32 +100,33 @@ fn report_script<O: Sink, E: Sink, R: Rack>(
     requires rules { IsRules rules.now }
     requires script { IsScript rules.now script.now }
     requires rack { (l : Label) → R.is_out rack.old l → ⊥ }
-    ensures { (v : Verdict) × IsReplayed (R.is_out rack.new) (R.given rack.new) rules.now script.now v
+    ensures { (v : Verdict) × IsReplayed extent (R.is_out rack.new) (R.given rack.new) rules.now script.now v
         × Delivered O.contents O.faults E.contents E.faults v out.old err.old out.new err.new result.0 }
 {
     replay_is_run();
     match replay_script(alloc, rules, script, rack) {
-        Ok(replayed) => report_run(alloc, rules, &replayed, out, err),
+        Ok(replayed) => report_run(alloc, rules, &replayed, extent, out, err),
         Err(RunFault::Memory) => tell(err, "memory\n", Status::NO_MEMORY),
     }
 }
 
-// Writes the report of a run, and answers 0, or 6 where an issue is halted; 4 or 5 where it is not written whole.
+// Tells a run to this extent, and answers 0, or 6 where an issue is halted; 4 or 5 where it is not told whole.
 fn report_run<O: Sink, E: Sink>(
     alloc: Global,
     rules: &Rules,
     run: &Replayed,
+    extent: Extent,
     out: &mut O,
     err: &mut E,
 ) -> Status
     requires rules { IsRules rules.now }
     requires run { IsRun rules.now (run_of run.now.issues.items run.now.shows.items) }
-    ensures { (v : Verdict) × IsReported rules.now (run_of run.now.issues.items run.now.shows.items) v
+    ensures { (v : Verdict) × IsReported extent rules.now (run_of run.now.issues.items run.now.shows.items) v
         × Delivered O.contents O.faults E.contents E.faults v out.old err.old out.new err.new result.0 }
 {
     let issues = run.issues.as_slice();
     let shows = run.shows.as_slice();
-    match write_report(alloc, out, rules, issues, shows) {
+    match write_run(alloc, out, extent, rules, issues, shows) {
         Ok(()) => done_status(issues),
         Err(ReportFault::Write) => Status::NOT_WRITTEN,
         Err(ReportFault::Memory) => tell(err, "memory\n", Status::NO_MEMORY),
@@ -148,7 +151,7 @@ fn is_any_halted(issues: &[EndedIssue]) -> bool
 }
 
 // Writes why there is no script to standard error, and answers 1 or 5, or 4 where that fails.
-fn tell_no_script<E: Sink>(err: &mut E, fault: ScriptFault) -> Status
+pub(crate) fn tell_no_script<E: Sink>(err: &mut E, fault: ScriptFault) -> Status
     ensures { let v = no_script fault in Told E.contents E.faults v.err v.status err.old err.new result.0 }
 {
     match fault {

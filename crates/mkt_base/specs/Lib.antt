@@ -1,5 +1,6 @@
 pub mod Book
 pub mod Certificate
+pub mod Desk
 pub mod Fills
 pub mod Laws
 pub mod Priority

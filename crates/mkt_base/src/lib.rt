@@ -1,9 +1,10 @@
 //! The words that all crates of the market share: prices, moments, orders, events and replies, the sums of an
-//! auction and its outcome, quotes, boards, and the watch that is told what a step puts out. `specs/` has the
-//! definitions over plain lists that contracts cite.
+//! auction and its outcome, quotes, boards, the watch that is told what a step puts out, and the desk at which a
+//! gateway enters its events. `specs/` has the definitions over plain lists that contracts cite.
 #![tactic(auto)]
 
 mod auction;
+mod desk;
 mod event;
 mod journal;
 mod law;
@@ -17,6 +18,7 @@ mod units;
 mod watch;
 
 pub use auction::{Outcome, Sums, Trade};
+pub use desk::Desk;
 pub use event::{Entry, Event, Phase, Reason, Reply};
 pub use journal::{Halt, NodeState, Stopped, TurnStop};
 pub use law::{levels_in_priority, paired_alike, taken_adds_up, trades_in_turn};

@@ -5,6 +5,7 @@
 
 mod block;
 mod fault;
+mod gate;
 mod lanes;
 mod lines;
 mod memory;
@@ -17,6 +18,7 @@ mod time;
 mod words;
 
 pub use fault::{LINES_LIMIT, LineFault, TextFault, checked_words, too_long};
+pub use gate::{Gate, NoGate};
 pub use lanes::is_text;
 pub use lines::{LINE_LIMIT, Lines, Piece};
 pub use memory::{MemFault, MemShelf, MemSink};

@@ -1,3 +1,4 @@
+mod Examples
 pub mod CallLemmas
 pub mod FirstLemmas
 pub mod NextLemmas
@@ -7,3 +8,10 @@ pub mod RankLemmas
 pub mod SideLemmas
 pub mod SumLemmas
 pub mod ViewLemmas
+pub mod FiledLemmas
+pub mod DepthLemmas
+pub mod BookLemmas
+pub mod OwnLemmas
+pub mod CountedLemmas
+pub mod FoundLemmas
+pub mod PriorityLemmas

@@ -62,7 +62,7 @@ module _ (n c : ℕ) (os : List Order) (book : IsBookView (plain n c os)) (side 
   not-both a b so = ahead-once (rank n side a.spot) a.place (rank n side b.spot) b.place so
 
   -- an order of the list has its place as its handle
-  named : (x : Order) → Contains os x → Names (plain n c os) x.place x
+  pub named : (x : Order) → Contains os x → Names (plain n c os) x.place x
   named x (k, h, e) = found-at x.place os k x (rising n c os book) h (sym e) refl
 
   -- where none comes before an order of a list in its order, it is the list's first
@@ -96,7 +96,7 @@ module _ (n c : ℕ) (os : List Order) (book : IsBookView (plain n c os)) (side 
   line-has f has so = side-has side os n f has so (All-contains (λ o. IsSpotBelow n o.spot) os f (on-grid n c os book) has)
 
   -- the first of the side
-  best-named : (found : Option Order) → IsFirst n side None os found → NamesFirst (plain n c os) (in_priority n side os) (option_map (λ o. o.place) found)
+  pub best-named : (found : Option Order) → IsFirst n side None os found → NamesFirst (plain n c os) (in_priority n side os) (option_map (λ o. o.place) found)
   unfolding line
   best-named found first =
       first-named None found line side-pairs (λ k d h. and-true (is_same_side side (get_or line k d).side) (side-own side os n k d h)) (side-holds side os n)
@@ -158,7 +158,7 @@ own-side Sell = refl
 
 module _ (n c h : ℕ) (os : List Order) (book : IsBookView (plain n c os)) (o : Order) (names : Names (plain n c os) h o) (found : Option Order) (first : IsFirst n o.side (Some o) os found) where
   -- the next along a side that the order stands on
-  along-named : (side : Side) (front rest : List Order) → in_priority n side os ≡ front ++ o ∷ rest → NamesFirst (plain n c os) rest (option_map (λ x. x.place) found)
+  pub along-named : (side : Side) (front rest : List Order) → in_priority n side os ≡ front ++ o ∷ rest → NamesFirst (plain n c os) rest (option_map (λ x. x.place) found)
   along-named side front rest parts =
       let own : is_same_side side o.side ≡ true =
       All-contains (λ y. is_same_side side y.side ≡ true) (in_priority n side os) o (side-own side os n)
@@ -183,7 +183,7 @@ module _ (n c h : ℕ) (os : List Order) (book : IsBookView (plain n c os)) (o :
       ]
 
   -- the next after the order on its own side
-  after-named : NamesFirst (plain n c os) (after_first (λ x. eqb x.place o.place) (in_priority n o.side os)) (option_map (λ x. x.place) found)
+  pub after-named : NamesFirst (plain n c os) (after_first (λ x. eqb x.place o.place) (in_priority n o.side os)) (option_map (λ x. x.place) found)
   after-named =
       let line = in_priority n o.side os in
       let test : Order → Bool = λ x. eqb x.place o.place in

@@ -1,5 +1,5 @@
 -- The plain body: the orders in a list by place, each under its place as its handle, and how it ranks and adds them up.
-use Rattle.std.specs.Prelude.{◌≡◌, ℕ, ◌+◌, ◌-◌, ◌≤◌, ◌==◌, ◌&&◌, ◌||◌, Bool, true, false, not, List, map, Option, MatchOption, nat_lt, nat_le, All, Contains}
+use Rattle.std.specs.Prelude.{◌≡◌, ℕ, ◌+◌, ◌-◌, ◌≤◌, ◌==◌, ◌&&◌, ◌||◌, Bool, true, false, not, List, map, Option, Some, MatchOption, nat_lt, nat_le, All, Contains}
 use Rattle.std.specs.Option.{option_map_or}
 use Rattle.mkt_base.specs.Book.{is_buy}
 use Rattle.mkt_base.specs.Priority.{is_on_level, is_same_side}
@@ -8,7 +8,7 @@ use Rattle.mkt_base.specs.declared.order.Side.TheVariants.{Buy, Sell}
 use Rattle.mkt_base.specs.declared.order.Spot.{Spot}
 use Rattle.mkt_base.specs.declared.order.Spot.TheVariants.{Market, At}
 use Rattle.mkt_base.specs.declared.order.Order.{Order}
-use Rattle.book_law.specs.BookView.{BookView, IsBookView, Slot, slot_of}
+use Rattle.book_law.specs.BookView.{BookView, IsBookView, Names, Slot, orders, slot_of}
 use Rattle.order_book.specs.declared.total.Part.{Part}
 use Rattle.order_book.specs.declared.total.Part.TheVariants.{BuysFrom, BuysAbove, SellsTo, SellsBelow, Level}
 
@@ -56,3 +56,16 @@ is_part (BuysAbove i) o = is_buy o.side && is_market_or_at (λ j. nat_lt i j) o.
 is_part (SellsTo i) o = not (is_buy o.side) && is_market_or_at (λ j. nat_le j i) o.spot
 is_part (SellsBelow i) o = not (is_buy o.side) && is_market_or_at (λ j. nat_lt j i) o.spot
 is_part (Level side spot) o = is_on_level side spot o
+
+-- of the orders that pass none comes before the one found; where none is found none passes
+abbrev pub IsFirstBy : ℕ → Side → (Order → Bool) → List Order → Option Order → Type 0
+IsFirstBy n side t orders found = MatchOption found (All (λ o. t o ≡ false) orders)
+    (λ f. Contains orders f × (t f ≡ true) × All (λ o. t o ≡ true → is_ahead n side o f ≡ false) orders)
+
+-- the order stands on the side behind this spot
+abbrev pub is_behind : ℕ → Side → Spot → Order → Bool
+is_behind n side spot o = is_same_side side o.side && nat_lt (rank n side spot) (rank n side o.spot)
+
+-- a handle that names the first of the orders of a side that pass, or none where none passes
+abbrev pub FindsFirst : BookView → Side → (Order → Bool) → Option ℕ → Type 0
+FindsFirst b side t found = MatchOption found (All (λ o. t o ≡ false) (orders b)) (λ handle. (o : Order) × Names b handle o × IsFirstBy b.prices side t (orders b) (Some o))

@@ -1,14 +1,14 @@
 // Handles of orders.
-ghost use Rattle.std.specs.Prelude.{◌≡◌, option_map};
+ghost use Rattle.std.specs.Prelude.{◌≡◌};
 
-use mkt_base::Order;
+use order_list::Link;
 use std::marker::Model;
 
 /// Names an order of one book from the call that put it in until it is taken out. Contracts see a number. The book may
 /// give the same handle out again after that.
 #[derive(Clone, Copy, Debug, PartialEq, Eq)]
 pub struct Handle {
-    key: u64,
+    link: Link,
 }
 
 impl Model for Handle {
@@ -16,33 +16,22 @@ impl Model for Handle {
 
     ghost Value = { ℕ };
 
-    ghost view = { λ h. h.key };
+    ghost view = { λ h. h.link };
 
-    ghost inverse = { λ n. record { key = n } };
+    ghost inverse = { λ n. record { link = n } };
 }
 
 impl Handle {
-    // The handle of the order at a place.
-    pub(crate) fn at(place: u64) -> Handle
-        ensures { result ≡ place }
+    pub(crate) fn new(link: Link) -> Handle
+        ensures { result ≡ link }
     {
-        Handle { key: place }
+        Handle { link }
     }
 
-    // The handle of an order that was found.
-    pub(crate) fn of(found: Option<Order>) -> Option<Handle>
-        ensures { result ≡ option_map (λ o. o.place) found }
-    {
-        match found {
-            Some(order) => Some(Handle::at(order.place)),
-            None => None,
-        }
-    }
-
-    // The place of the order that it names.
-    pub(crate) fn place(self) -> u64
+    // The link of the order by place.
+    pub(crate) fn link(self) -> Link
         ensures { result ≡ self }
     {
-        self.key
+        self.link
     }
 }

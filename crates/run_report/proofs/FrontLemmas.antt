@@ -1,6 +1,8 @@
--- Whole lines from the front of a text.
-use Rattle.std.proofs.Common.{◌≡◌, ℕ, List, [], ◌++◌, Option, append-nil, append_assoc, refl, sym, ap, subst, ◌∙◌}
-use Rattle.mkt_io.specs.Printed.{PrintsLines, before_lines, no_lines}
+-- Whole lines from the front of a text, and lines behind a fault.
+use Rattle.std.proofs.Common.{◌≡◌, ℕ, true, List, [], ◌++◌, Option, append-nil, append_assoc, length-append, refl, sym, ap, subst, ◌∙◌, arith}
+use Rattle.std.proofs.lemmas.List.{take-append-le}
+use Rattle.std.specs.Io.KnownBytes.{Appends}
+use Rattle.mkt_io.specs.Printed.{Printed, PrintsLines, before_lines, has_fault, no_lines}
 use Rattle.mkt_io.specs.declared.printer.Printer.{Printer}
 use Rattle.run_report.specs.Issue.{PrintsFront}
 
@@ -36,3 +38,28 @@ module _ {O : Type 0} {contents : O → Option (List ℕ)} {faults : O → ℕ} 
   -- the same under another name
   pub same_front : {p q : Printer O} {xs ys : List ℕ} → xs ≡ ys → PrintsFront contents faults p q xs → PrintsFront contents faults p q ys
   same_front {p} {q} e front = let P : List ℕ → Type 0 = λ zs. PrintsFront contents faults p q zs in subst P e front
+
+  -- a printer with a fault says nothing of what stands behind its first part, so any lines more count as printed
+  pub printed_behind : {q : Printer O} (from : O) (text more : List ℕ) → has_fault q ≡ true → Printed contents faults from text [] q → Printed contents faults from (text ++ more) [] q
+  printed_behind {q} from text more fault printed =
+      let h = printed.handed in
+      let P : List ℕ → Type 0 = λ xs. Appends (contents from) (contents q.sink.now) xs in
+      record {
+        handed = record {
+          n = h.n;
+          within = omega (arith, h.within, length-append text more);
+          written = subst P (sym (take-append-le h.n text more h.within)) h.written;
+          gathered = λ clean. absurd (cc);
+          cause = h.cause;
+          count = h.count;
+        };
+        begun = printed.begun;
+      }
+
+  pub lines_behind : {p q : Printer O} {xs : List ℕ} (more : List ℕ) → has_fault q ≡ true → PrintsLines contents faults p q xs → PrintsLines contents faults p q (xs ++ more)
+  lines_behind {p} {q} {xs} more fault lines = record {
+    same_sink = lines.same_sink;
+    printed = λ from text before.
+        let P : List ℕ → Type 0 = λ ys. Printed contents faults from ys [] q in
+        subst P (append_assoc text xs more) (printed_behind from (text ++ xs) more fault (lines.printed from text before));
+  }

@@ -1,9 +1,9 @@
 -- The part of an issue, from the steps of its machine.
-use Rattle.std.proofs.Common.{◌≡◌, ℕ, ◌+◌, ◌<◌, ◌≤◌, false, List, [], ◌++◌, Option, Some, inl, inr, length, flat_map, slice_get, append_assoc, sym, ap, subst, ◌∙◌, arith}
+use Rattle.std.proofs.Common.{◌≡◌, ℕ, ◌+◌, ◌<◌, ◌≤◌, false, true, List, [], ◌++◌, Option, Some, inl, inr, length, flat_map, slice_get, append_assoc, sym, ap, subst, ◌∙◌, arith}
 use Rattle.std.specs.Option.{option_map_or}
 use Rattle.std.proofs.lemmas.Option.{slice_get_cases}
 use Rattle.mkt_base.specs.declared.units.Price.{Price}
-use Rattle.mkt_io.specs.Printed.{PrintsLines, before_lines, same_lines}
+use Rattle.mkt_io.specs.Printed.{PrintsLines, before_lines, has_fault, same_lines}
 use Rattle.mkt_io.specs.declared.printer.Printer.{Printer}
 use Rattle.rules_file.specs.Rules.{issues_in, participants_in}
 use Rattle.rules_file.specs.declared.issue.IssueRules.{IssueRules}
@@ -19,6 +19,7 @@ use Rattle.run_report.specs.Watched.{Counted, shares_of}
 use Rattle.run_report.specs.declared.ended.EndedIssue.{EndedIssue}
 use Rattle.run_report.specs.declared.ended.Totals.{Totals}
 use Rattle.run_report.specs.declared.tally.Tally.{Tally}
+use Rattle.run_report.proofs.FrontLemmas.{lines_behind}
 
 -- what the rules say of an issue that they have, with which its machine is made
 pub record IsMade (rules : Rules) (issue capacity : ℕ) (m : MachineView) : Type 0 where
@@ -58,6 +59,15 @@ part-is rules issue ended r there = ap (λ found. option_map_or (λ r. issue_tex
 totals-same : {a b c d e f : ℕ} {p q : Price} → a ≡ d → b ≡ e → c ≡ f → p ≡ q
     → let x : Totals = record { entries = a; trades = b; shares = c; last = p } in let y : Totals = record { entries = d; trades = e; shares = f; last = q } in x ≡ y
 totals-same i j k l = cc
+
+-- up to a fault all of the part counts as printed
+pub stopped-part : (rules : Rules) (issue : ℕ) (r : IssueRules) (capacity : ℕ) (ended : EndedIssue) (m : MachineView) → m ≡ new_machine rules r capacity
+    → {O : Type 0} {contents : O → Option (List ℕ)} {faults : O → ℕ} {p q s : Printer O} → has_fault s ≡ true → PrintsLines contents faults p q (issue_line rules issue)
+    → PrintsLines contents faults q s (flat_map (done_text rules) (replay m.issue.terms m.issue.state ended.journal)) → PrintsLines contents faults p s (issue_text_on rules issue (terms_of rules r) ended)
+stopped-part rules issue r capacity ended m made fault first steps =
+    let t = terms_of rules r in
+    let text = ap (λ (v : MachineView). issue_line rules issue ++ flat_map (done_text rules) (replay v.issue.terms v.issue.state ended.journal)) made in
+    lines_behind _ fault (lines_behind _ fault (lines_behind _ fault (same_lines text (before_lines first steps))))
 
 module _ (rules : Rules) (issue : ℕ) (r : IssueRules) (capacity : ℕ) (ended : EndedIssue) (m n : MachineView) (made : m ≡ new_machine rules r capacity)
     (state : n.issue.state ≡ state_from m.issue.terms ended.journal m.issue.state) where

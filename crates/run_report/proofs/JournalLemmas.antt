@@ -1,14 +1,16 @@
 -- The steps of a journal, one after another.
-use Rattle.std.proofs.Common.{◌≡◌, ℕ, ◌+◌, ◌≤◌, List, [], ◌∷◌, ◌++◌, Option, length, flat_map, append-nil, append_assoc, refl, sym, ap, subst, ◌∙◌, arith}
+use Rattle.std.proofs.Common.{◌≡◌, ℕ, ◌+◌, ◌≤◌, true, List, [], ◌∷◌, ◌++◌, Option, length, flat_map, append-nil, append_assoc, refl, sym, ap, subst, ◌∙◌, arith}
 use Rattle.mkt_base.specs.declared.auction.Trade.{Trade}
 use Rattle.mkt_base.specs.declared.event.Entry.{Entry}
+use Rattle.mkt_io.specs.Printed.{has_fault, same_lines}
 use Rattle.issue_book.specs.State.{State}
 use Rattle.issue_machine.specs.Journal.{AreEntries, MachineView, MayStep, stepped}
 use Rattle.issue_machine.specs.Step.{replay, state_from, step}
 use Rattle.run_report.specs.Issue.{done_of}
 use Rattle.run_report.specs.Report.{done_text, entry_line, output_line, reply_line, trades_of}
-use Rattle.run_report.specs.Watched.{Shown, ShownOutputs, nothing_shown}
+use Rattle.run_report.specs.Watched.{Shown, ShownLines, ShownOutputs, nothing_shown}
 use Rattle.run_report.specs.declared.watch.PrintWatch.{PrintWatch}
+use Rattle.run_report.proofs.FrontLemmas.{lines_behind}
 use Rattle.run_report.proofs.ShownLemmas.{same_shown, shown_then}
 
 -- a journal's steps up to a machine and a watch: what was shown and what the entries that are left show is the whole text, with all
@@ -77,3 +79,18 @@ module _ {O : Type 0} {contents : O → Option (List ℕ)} {faults : O → ℕ} 
   -- at the end all is shown
   pub stepping-ends : {m : MachineView} {w : PrintWatch O} → IsStepping contents faults start whole all final m w [] → Shown contents faults start whole all w
   stepping-ends {m} {w} s = same_shown (sym (append-nil s.text) ∙ s.texts) (sym (append-nil s.trades) ∙ s.traded) s.shown
+
+  -- at a fault all lines count as shown
+  pub stepping-stops : {m : MachineView} {w : PrintWatch O} {left : List Entry} → has_fault w.printer.now ≡ true → IsStepping contents faults start whole all final m w left
+      → ShownLines contents faults start whole w
+  stepping-stops {m} {w} {left} fault s = record {
+    same_printer = s.shown.same_printer;
+    same_sink = s.shown.same_sink;
+    same_rules = s.shown.same_rules;
+    printed = same_lines s.texts (lines_behind (flat_map (done_text w.rules.now) (replay m.issue.terms m.issue.state left)) fault s.shown.printed);
+  }
+
+-- what is shown are lines
+pub lines-of_shown : {O : Type 0} {contents : O → Option (List ℕ)} {faults : O → ℕ} {old new : PrintWatch O} {text : List ℕ} {trades : List Trade}
+    → Shown contents faults old text trades new → ShownLines contents faults old text new
+lines-of_shown shown = record { same_printer = shown.same_printer; same_sink = shown.same_sink; same_rules = shown.same_rules; printed = shown.printed }

@@ -1,3 +1,4 @@
+pub mod CountLemmas
 mod Examples
 pub mod FrontLemmas
 pub mod IssueLemmas

@@ -1,5 +1,5 @@
 -- A report, from what was printed of it.
-use Rattle.std.proofs.Common.{◌≡◌, ℕ, ◌+◌, ◌<◌, ◌≤◌, List, [], ◌∷◌, ◌++◌, Option, Result, Ok, Err, OnOk, IfErr, drop, get_or, length, take, append_assoc, length-append, sym, ap, subst, ◌∙◌, arith}
+use Rattle.std.proofs.Common.{◌≡◌, ℕ, ◌+◌, ◌<◌, ◌≤◌, List, [], ◌∷◌, ◌++◌, Option, Result, Ok, Err, OnOk, IfErr, drop, get_or, length, take, append_assoc, length-append, refl, sym, ap, subst, ◌∙◌, arith}
 use Rattle.std.proofs.lemmas.List.{drop_more, take_all, take-append-le}
 use Rattle.std.specs.Io.KnownBytes.{Appends}
 use Rattle.mkt_io.specs.Faults.{Rises}
@@ -7,12 +7,13 @@ use Rattle.mkt_io.specs.Printed.{Printed, PrintsLines}
 use Rattle.mkt_io.specs.Sink.{AppendsPart}
 use Rattle.mkt_io.specs.declared.printer.Printer.{Printer}
 use Rattle.rules_file.specs.declared.rules.Rules.{Rules}
-use Rattle.run_report.specs.Issue.{PrintsFront}
+use Rattle.run_report.specs.Issue.{HadMemory, PrintsFront}
 use Rattle.run_report.specs.Report.{issue_text, issues_text}
 use Rattle.run_report.specs.Reported.{Reports}
 use Rattle.run_report.specs.declared.ended.EndedIssue.{EndedIssue}
 use Rattle.run_report.specs.declared.ended.ReportFault.{ReportFault}
 use Rattle.run_report.specs.declared.ended.ReportFault.TheVariants.{Memory, Write}
+use Rattle.run_report.specs.declared.ended.Totals.{Totals}
 
 -- the part of one issue more
 pub issue-next : (rules : Rules) (i : ℕ) (issues : List EndedIssue) (item : EndedIssue) (text whole : List ℕ) → i < length issues → item ≡ get_or issues i item
@@ -20,6 +21,15 @@ pub issue-next : (rules : Rules) (i : ℕ) (issues : List EndedIssue) (item : En
 issue-next rules i issues item text whole within is all =
     let left : drop i issues ≡ item ∷ drop (i + 1) issues = drop_more issues i item within ∙ ap (λ x. x ∷ drop (i + 1) issues) (sym is) in
     append_assoc text (issue_text rules i item) (issues_text rules (i + 1) (drop (i + 1) issues)) ∙ ap (λ more. text ++ issues_text rules i more) (sym left) ∙ all
+
+-- a fault that is no want of memory is the sink's, whatever was to be answered
+pub had_too : (fault : ReportFault) → HadMemory {A = Unit {0}} (Err fault) → HadMemory {A = Totals} (Err fault)
+had_too Write had = tt
+had_too Memory had = absurd had
+
+pub failed_write : (fault : ReportFault) → HadMemory {A = Unit {0}} (Err fault) → let one : Result Totals ReportFault = Err fault in one ≡ Err Write
+failed_write Write had = refl
+failed_write Memory had = absurd had
 
 -- a front part of a front part is one of the whole
 part-of_longer : (old new : Option (List ℕ)) (front rest text : List ℕ) → text ≡ front ++ rest → AppendsPart old new front → AppendsPart old new text

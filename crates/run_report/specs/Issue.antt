@@ -1,5 +1,5 @@
 -- What is printed and answered of one issue.
-use Rattle.std.specs.Prelude.{◌≡◌, ℕ, List, [], ◌∷◌, ◌++◌, Option, length, codes}
+use Rattle.std.specs.Prelude.{◌≡◌, ℕ, List, [], ◌∷◌, ◌++◌, Option, Result, Ok, Err, length, codes}
 use Rattle.std.specs.Fmt.{decimal}
 use Rattle.mkt_base.specs.ReportWords.{name_of}
 use Rattle.mkt_base.specs.Text.{line}
@@ -15,6 +15,8 @@ use Rattle.issue_machine.specs.Step.{Done, replay, state_after, step}
 use Rattle.run_report.specs.Report.{trades_of}
 use Rattle.run_report.specs.Watched.{shares_of}
 use Rattle.run_report.specs.declared.ended.EndedIssue.{EndedIssue}
+use Rattle.run_report.specs.declared.ended.ReportFault.{ReportFault}
+use Rattle.run_report.specs.declared.ended.ReportFault.TheVariants.{Write, Memory}
 use Rattle.run_report.specs.declared.ended.Totals.{Totals}
 
 -- what a machine does of an entry
@@ -39,6 +41,12 @@ totals_words totals =
 -- the line of an issue's totals
 abbrev pub totals_line : Rules → ℕ → Totals → List ℕ
 totals_line rules issue totals = line (codes "total" ∷ name_of (codes_in rules) issue ∷ totals_words totals)
+
+-- no memory was wanting: all is done, or the sink failed
+abbrev pub HadMemory : {A : Type 0} → Result A ReportFault → Type 0
+HadMemory (Ok x) = Unit {0}
+HadMemory (Err Write) = Unit {0}
+HadMemory (Err Memory) = ⊥
 
 -- whole lines from the front of a text were printed, and no more, over the same sink
 pub record PrintsFront {O : Type 0} (contents : O → Option (List ℕ)) (faults : O → ℕ) (old new : Printer O) (text : List ℕ) : Type 0 where

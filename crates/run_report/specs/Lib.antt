@@ -1,4 +1,5 @@
 pub mod Issue
 pub mod Report
 pub mod Reported
+pub mod Summed
 pub mod Watched

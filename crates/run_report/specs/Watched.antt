@@ -19,6 +19,13 @@ pub record Counted (old : Tally) (trades : List Trade) (new : Tally) : Type 0 wh
   pub number : new.passed ≡ false → new.trades ≡ old.trades + length trades
   pub shares : new.passed ≡ false → new.shares ≡ old.shares + shares_of trades
 
+-- from one state of a watch to another this text was printed
+pub record ShownLines {O : Type 0} (contents : O → Option (List ℕ)) (faults : O → ℕ) (old : PrintWatch O) (text : List ℕ) (new : PrintWatch O) : Type 0 where
+  pub same_printer : new.printer.ghost_name ≡ old.printer.ghost_name
+  pub same_sink : new.printer.now.sink.ghost_name ≡ old.printer.now.sink.ghost_name
+  pub same_rules : new.rules.now ≡ old.rules.now
+  pub printed : PrintsLines contents faults old.printer.now new.printer.now text
+
 -- from one state of a watch to another this text was printed, and these trades were counted
 pub record Shown {O : Type 0} (contents : O → Option (List ℕ)) (faults : O → ℕ) (old : PrintWatch O) (text : List ℕ) (trades : List Trade) (new : PrintWatch O) : Type 0 where
   pub same_printer : new.printer.ghost_name ≡ old.printer.ghost_name

@@ -11,9 +11,11 @@ mod report;
 mod shows;
 mod sound;
 mod tally;
+mod totals;
 mod watch;
 
 pub use ended::{EndedIssue, ReportFault, Totals};
 pub use issue::print_issue;
 pub use report::write_report;
 pub use shows::print_shows;
+pub use totals::write_totals;

@@ -4,7 +4,7 @@ ghost use Rattle.mkt_base.specs.Text.{line};
 ghost use Rattle.mkt_base.specs.declared.script.ShowLine.{ShowLine};
 ghost use Rattle.mkt_io.specs.Printed.{PrintsLines};
 ghost use Rattle.rules_file.specs.Rules.{IsRules, issues_in};
-ghost use Rattle.run_report.specs.Issue.{PrintsFront};
+ghost use Rattle.run_report.specs.Issue.{HadMemory, PrintsFront};
 ghost use Rattle.run_report.specs.Report.{IsEnded, IsRun, issues_text, report_text};
 ghost use Rattle.run_report.specs.Reported.{Reports};
 
@@ -36,7 +36,7 @@ pub fn write_report<O: Sink>(
     }
 }
 
-// Prints the report.
+// Prints the report. A fault of the sink is left to the printer.
 fn print_report<O: Sink>(
     alloc: Global,
     printer: &mut Printer<'_, O>,
@@ -53,15 +53,15 @@ fn print_report<O: Sink>(
     ensures cause { IfErr result (λ fault. fault ≡ ReportFault.Memory) }
 {
     print_begin(printer);
-    print_issues(alloc, printer, rules, issues)?;
+    print_parts(alloc, printer, rules, issues)?;
     // (a fault is kept by the printer, and told by its end)
     let _ = print_shows(rules, shows, printer);
     print_end(printer);
     Ok(())
 }
 
-// Prints the parts of the issues.
-fn print_issues<O: Sink>(
+// Prints the parts of the issues. A fault of the sink is left to the printer.
+fn print_parts<O: Sink>(
     alloc: Global,
     printer: &mut Printer<'_, O>,
     rules: &Rules,
@@ -74,16 +74,39 @@ fn print_issues<O: Sink>(
     ensures whole { OnOk result (PrintsLines O.contents O.faults printer.old printer.new (issues_text rules.now 0 issues.now)) }
     ensures cause { IfErr result (λ fault. fault ≡ ReportFault.Memory) }
 {
+    match print_issues(alloc, printer, rules, issues) {
+        Ok(()) => Ok(()),
+        Err(ReportFault::Write) => Ok(()),
+        Err(ReportFault::Memory) => Err(ReportFault::Memory),
+    }
+}
+
+// Prints the parts of the issues, up to the first that meets a fault.
+fn print_issues<O: Sink>(
+    alloc: Global,
+    printer: &mut Printer<'_, O>,
+    rules: &Rules,
+    issues: &[EndedIssue],
+) -> Result<(), ReportFault>
+    requires rules { IsRules rules.now }
+    requires each { length issues.now ≡ length (issues_in rules.now) }
+    requires ended { All (IsEnded rules.now) issues.now }
+    ensures front { PrintsFront O.contents O.faults printer.old printer.new (issues_text rules.now 0 issues.now) }
+    ensures whole { HadMemory result → PrintsLines O.contents O.faults printer.old printer.new (issues_text rules.now 0 issues.now) }
+{
     for i in 0..rules.issues() {
         let ended = &issues[usize::from(i)];
-        print_issue(
+        match print_issue(
             alloc,
             rules,
             i,
             ended.journal.as_slice(),
             ended.halt,
             printer,
-        )?;
+        ) {
+            Ok(_) => {}
+            Err(fault) => return Err(fault),
+        }
     }
     Ok(())
 }
@@ -96,7 +119,7 @@ fn print_begin<O: Sink>(printer: &mut Printer<'_, O>)
     printer.line_end();
 }
 
-fn print_end<O: Sink>(printer: &mut Printer<'_, O>)
+pub(crate) fn print_end<O: Sink>(printer: &mut Printer<'_, O>)
     ensures { PrintsLines O.contents O.faults printer.old printer.new (line (codes "end" ∷ [])) }
 {
     printer.word("end");

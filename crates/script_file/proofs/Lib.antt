@@ -1,5 +1,7 @@
 mod CommandLemmas
 mod Examples
+mod GeneratedExamples
+pub mod GeneratorLemmas
 mod OrderLemmas
 mod ReaderLemmas
 mod ScriptLemmas

@@ -1,5 +1,6 @@
 pub mod Commands
 pub mod Faults
+pub mod Generated
 pub mod Orders
 pub mod Own
 pub mod Reader

@@ -17,10 +17,10 @@ pub(crate) enum Issues {
     Each,
 }
 
-// The caller that a gateway is.
+/// The caller that a gateway is, by its name: the n-th gateway of the rules is caller n, counted from 1.
 #[tactic(auto, unfolding(crate::specs::Words::gateway_of))]
 #[inline(always)]
-pub(crate) fn gateway_of(rules: &Rules, word: &[u8]) -> Result<Caller, LineFault>
+pub fn gateway_of(rules: &Rules, word: &[u8]) -> Result<Caller, LineFault>
     requires { IsRules rules.now }
     ensures exact { result ≡ gateway_of rules.now word.now }
     ensures known { IfOk result (IsGateway rules.now) }
@@ -56,13 +56,10 @@ pub(crate) fn next_issues(rules: &Rules, words: &mut Words<'_>) -> Result<Issues
     issues_of(rules, word)
 }
 
-// The participant that the next word names.
+/// Takes the next word, as the name of a participant of the rules.
 #[tactic(auto, unfolding(crate::specs::Words::next_participant))]
 #[inline(always)]
-pub(crate) fn next_participant(
-    rules: &Rules,
-    words: &mut Words<'_>,
-) -> Result<Participant, LineFault>
+pub fn next_participant(rules: &Rules, words: &mut Words<'_>) -> Result<Participant, LineFault>
     ensures exact { MatchResult result (λ participant. next_participant rules.now words.old ≡ Ok (participant, words.new))
         (λ fault. next_participant rules.now words.old ≡ Err fault) }
     ensures known { IfOk result (λ participant. participant.0 < length (participants_in rules.now)) }
@@ -74,10 +71,10 @@ pub(crate) fn next_participant(
     Ok(Participant(number))
 }
 
-// The side that the next word names.
+/// Takes the next word, as a side: `buy` or `sell`.
 #[tactic(auto, unfolding(crate::specs::Words::next_side))]
 #[inline(always)]
-pub(crate) fn next_side(words: &mut Words<'_>) -> Result<Side, LineFault>
+pub fn next_side(words: &mut Words<'_>) -> Result<Side, LineFault>
     ensures { MatchResult result (λ side. next_side words.old ≡ Ok (side, words.new)) (λ fault. next_side words.old ≡
         Err fault) }
 {
@@ -97,10 +94,10 @@ fn kind_of(word: &[u8]) -> Result<Kind, LineFault>
     Ok(Kind::Limit(Price(price)))
 }
 
-// The kind that the next word says: `market`, or a limit price.
+/// Takes the next word, as a kind of order: `market`, or a limit price in tenths of a yen.
 #[tactic(auto, unfolding(crate::specs::Words::next_kind))]
 #[inline(always)]
-pub(crate) fn next_kind(words: &mut Words<'_>) -> Result<Kind, LineFault>
+pub fn next_kind(words: &mut Words<'_>) -> Result<Kind, LineFault>
     ensures { MatchResult result (λ kind. next_kind words.old ≡ Ok (kind, words.new)) (λ fault. next_kind words.old ≡
         Err fault) }
 {
@@ -130,10 +127,10 @@ pub(crate) fn next_own(
     }
 }
 
-// The node that the next word says.
+/// Takes the next word, as the number of a node, 0 to 2.
 #[tactic(auto, unfolding(crate::specs::Words::next_node))]
 #[inline(always)]
-pub(crate) fn next_node(words: &mut Words<'_>) -> Result<NodeNo, LineFault>
+pub fn next_node(words: &mut Words<'_>) -> Result<NodeNo, LineFault>
     ensures exact { MatchResult result (λ node. next_node words.old ≡ Ok (node, words.new)) (λ fault. next_node words.old ≡
         Err fault) }
     ensures a_node { IfOk result (λ node. node < 3) }
@@ -145,10 +142,10 @@ pub(crate) fn next_node(words: &mut Words<'_>) -> Result<NodeNo, LineFault>
     Ok(node)
 }
 
-// The moment that the next word says.
+/// Takes the next word, as a moment of the day.
 #[tactic(auto, unfolding(crate::specs::Words::next_moment))]
 #[inline(always)]
-pub(crate) fn next_moment(words: &mut Words<'_>) -> Result<Moment, LineFault>
+pub fn next_moment(words: &mut Words<'_>) -> Result<Moment, LineFault>
     ensures exact { MatchResult result (λ moment. next_moment words.old ≡ Ok (moment, words.new)) (λ fault. next_moment
         words.old ≡ Err fault) }
     ensures within_the_day { IfOk result (λ moment. moment < 86400000) }

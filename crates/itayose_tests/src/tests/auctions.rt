@@ -7,10 +7,13 @@ ghost use Rattle.itayose.specs.Fills.{is_longer, limit_position};
 ghost use Rattle.itayose_tests.specs.Open.{IsOpen, IsReady};
 
 use allotment::Round;
+use depth_index::Steps;
 use itayose::{Attempt, Margin, attempt, certificate, settle, share_out};
 use mkt_base::{Caller, MemWatch, Order, Output, Participant, Price, Side, Spot};
 use order_book::{Book, BookFault};
 use std::alloc::Global;
+use std::marker::Brand;
+use std::sync::ledger::{Blank, Ledger};
 use std::test::Fail;
 use tick_grid::{Grid, GridFault, TickRow};
 
@@ -116,7 +119,7 @@ fn put(book: &mut Book, next: u8, participant: u8, side: Side, spot: Spot, left:
 }
 
 // A book of 8 prices with these orders.
-fn filled(alloc: Global, orders: &[u8]) -> Result<Book, BookFault>
+pub(crate) fn filled(alloc: Global, orders: &[u8]) -> Result<Book, BookFault>
     ensures { IfOk result IsReady }
 {
     let mut book = Book::make(alloc, 8, 9)?;
@@ -195,14 +198,18 @@ fn rounds() -> [Round; 4]
 }
 
 // Holds an auction on the book, and tells whether all is as the texts say.
-fn auction(
+fn auction<L: Ledger>(
     alloc: Global,
+    blank: Blank,
     book: &mut Book,
     grid: &Grid,
     margin: Margin,
     text: &[u8],
     trades: &[u8],
 ) -> bool
+    requires name { blank.name ≡ L.name }
+    requires parts { blank.parts ≡ L.parts }
+    requires some { 0 < blank.parts }
     requires ready { IsReady book.old }
     requires size { length grid.now ≡ 8 }
 {
@@ -212,7 +219,8 @@ fn auction(
     let hi = u32::from(digit(*hi).min(7));
     let reference = u32::from(digit(*reference)).min(hi);
     let lo = u32::from(digit(*lo)).min(reference);
-    let attempt = attempt(book, grid, reference, lo, hi);
+    let mut steps = Steps::<L>::new(blank);
+    let attempt = attempt(book, grid, reference, lo, hi, &mut steps);
     let mut told = MemWatch::new(alloc);
     certificate(book, grid, reference, lo, hi, attempt, &mut told);
     let mut traded = MemWatch::new(alloc);
@@ -263,7 +271,7 @@ fn presses(book: &Book, grid: &Grid, side: Side) -> bool
 }
 
 // A grid of 8 prices from 1000 on.
-fn eight_prices(alloc: Global) -> Result<Grid, GridFault> {
+pub(crate) fn eight_prices(alloc: Global) -> Result<Grid, GridFault> {
     let ticks = [TickRow {
         upto: 1_000_000_000,
         tick: 10,
@@ -278,7 +286,15 @@ fn a_table_of_auctions(rt: HostRuntime) -> Result<(), Fail> {
     for (orders, answer, trades) in AUCTIONS {
         let mut book = filled(rt.alloc(), orders.as_bytes())?;
         let (answer, trades) = (answer.as_bytes(), trades.as_bytes());
-        let held = auction(rt.alloc(), &mut book, &grid, Margin::Time, answer, trades);
+        let held = auction::<Brand>(
+            rt.alloc(),
+            Blank::new(1),
+            &mut book,
+            &grid,
+            Margin::Time,
+            answer,
+            trades,
+        );
         assert!(rt; held, "{orders}");
     }
     Ok(())
@@ -291,7 +307,15 @@ fn a_table_of_auctions_by_rounds(rt: HostRuntime) -> Result<(), Fail> {
     for (orders, answer, trades) in BY_ROUNDS {
         let mut book = filled(rt.alloc(), orders.as_bytes())?;
         let (answer, trades) = (answer.as_bytes(), trades.as_bytes());
-        let held = auction(rt.alloc(), &mut book, &grid, Margin::Rounds, answer, trades);
+        let held = auction::<Brand>(
+            rt.alloc(),
+            Blank::new(1),
+            &mut book,
+            &grid,
+            Margin::Rounds,
+            answer,
+            trades,
+        );
         assert!(rt; held, "{orders}");
     }
     Ok(())

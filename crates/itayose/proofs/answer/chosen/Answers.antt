@@ -1,51 +1,27 @@
-use Rattle.std.proofs.Common.{◌≡◌, true, false, ◌∙◌, sym}
+use Rattle.std.proofs.Common.{◌≡◌, ℕ, ◌+◌, ◌-◌, ◌*◌, Some, max, min, arith}
 use Rattle.mkt_base.specs.Book.{price_at}
-use Rattle.auction_law.specs.Attempt.{meets}
-use Rattle.auction_law.proofs.ChoiceLemmas.{meets-of_sums}
-use Rattle.book_law.specs.BookView.{orders}
-use Rattle.itayose.proofs.TellingLemmas.{chosen-behind, found-next, meets-next, next_of, passed-next, reference-chosen, traded-answer}
-use Rattle.itayose.proofs.WalkLemmas.{begins}
+use Rattle.auction_law.specs.Attempt.{chosen}
+use Rattle.book_law.specs.BookView.{IsGridOf, orders}
+use Rattle.itayose.proofs.ReadLemmas.{reads-join, reads-two}
+use Rattle.itayose.proofs.RunLemmas.{run-chosen}
+use Rattle.itayose.proofs.TellingLemmas.{traded-answer}
 use Rattle.itayose.proofs.answer.chosen.Goals as goal
 
-pub returns-then-meets-clause-answer : goal.returns-then-meets-clause-answer
-returns-then-meets-clause-answer c =
+pub returns-clause-answer : goal.returns-clause-answer
+returns-clause-answer g c p h =
     let grid = c.args.grid.now in
-    let os = orders c.args.book.now in
-    let r = price_at grid c.args.reference in
-    let m : meets grid os r ≡ true = sym (c.meets.ensures ∙ meets-of_sums grid os r c.sums_there-sums.result c.sums_there-sums.ensures) ∙ c.if-meets.true in
-    λ lo hi p h. rw c.traded.ensures
-    (traded-answer grid os c.args.reference p c.sums_there-sums.result _ c.sums_there-sums.ensures (reference-chosen grid os r _ (begins grid c.args.reference c.stands.ensures.rising c.requires.in_range) m) h lo hi)
+    let of : IsGridOf c.args.book.now grid = record { rising = c.stands.ensures.rising; size = c.requires.size } in
+    let at : ℕ = c.max-at.result in
+    let moved : at ≡ max (min c.args.reference (c.first_past-past.result - 1)) c.first_past-first.result = omega (arith, c.max-at.ensures, c.min.ensures) in
+    let found : chosen grid (orders c.args.book.now) (price_at grid c.args.reference) ≡ Some (price_at grid at) =
+    run-chosen c.args.book.now grid of c.args.reference c.args.lo c.args.hi c.first_past-first.result c.first_past-past.result at c.requires.lo c.requires.hi c.requires.in_range c.requires.traded c.first_past-first.ensures.found c.first_past-past.ensures.found moved in
+    rw c.traded.ensures
+    (traded-answer grid (orders c.args.book.now) at p c.sums_counted-sums.result _ c.sums_counted-sums.ensures.sums found h c.args.lo c.args.hi)
 
-pub loop-at-init : goal.loop-at-init
-loop-at-init c =
-    let grid = c.args.grid.now in
-    let os = orders c.args.book.now in
-    let r = price_at grid c.args.reference in
-    let m : meets grid os r ≡ false = sym (c.meets.ensures ∙ meets-of_sums grid os r c.sums_there-sums.result c.sums_there-sums.ensures) ∙ c.if-meets.false in
-    record {
-      grid_is = c.new-rest.ensures.grid;
-      orders_are = c.new-rest.ensures.orders;
-      first = chosen-behind grid os r c.new-rest.result.left c.new-rest.ensures.left m;
-    }
-
-pub returns-then-meets-2-clause-answer : goal.returns-then-meets-2-clause-answer
-returns-then-meets-2-clause-answer c =
-    let grid = c.args.grid.now in
-    let os = orders c.args.book.now in
-    let n = next_of grid os c.loop-at.rest c.in-Some.at c.in-Some.sums _ c.loop-at.invariant.grid_is c.loop-at.invariant.orders_are c.in-Some.ensures.next in
-    let m = meets-next grid os c.in-Some.at c.in-Some.sums _ _ n c.meets-in-Some.result c.meets-in-Some.ensures ∙ c.if-meets-2.true in
-    λ lo hi p h. rw c.traded-then-meets-2.ensures
-    (traded-answer grid os c.in-Some.at p c.in-Some.sums _ n.sums (c.loop-at.invariant.first ∙ found-next grid os _ _ _ n.first m) h lo hi)
-
-pub loop-at-preserved : goal.loop-at-preserved
-loop-at-preserved c =
-    let grid = c.args.grid.now in
-    let os = orders c.args.book.now in
-    let inv = c.loop-at.invariant in
-    let n = next_of grid os c.loop-at.rest c.in-Some.at c.in-Some.sums _ inv.grid_is inv.orders_are c.in-Some.ensures.next in
-    let m = meets-next grid os c.in-Some.at c.in-Some.sums _ _ n c.meets-in-Some.result c.meets-in-Some.ensures ∙ c.if-meets-2.false in
-    record {
-      grid_is = c.in-Some.ensures.grid ∙ inv.grid_is;
-      orders_are = c.in-Some.ensures.orders ∙ inv.orders_are;
-      first = inv.first ∙ passed-next grid os _ _ _ n.first m;
-    }
+pub returns-clause-reads : goal.returns-clause-reads
+returns-clause-reads g c digits h =
+    let size : ℕ = c.args.book.now.prices in
+    let low = c.first_past-first.ensures.reads digits (omega (arith, c.requires.size, c.requires.in_range, h)) in
+    let high = c.first_past-past.ensures.reads digits (omega (arith, c.requires.size, c.requires.in_range, h)) in
+    let ends = reads-join size 0 (2 * digits) 0 (2 * digits) 0 (4 * digits) c.args.steps.now c.first_past-first.new.steps c.first_past-past.new.steps low high (omega arith) (omega arith) in
+    reads-join size 0 (4 * digits) 2 2 2 (4 * digits + 2) c.args.steps.now c.first_past-past.new.steps c.sums_counted-sums.new.steps ends (reads-two size c.first_past-past.new.steps c.sums_counted-sums.new.steps c.sums_counted-sums.ensures.reads) (omega arith) (omega arith)

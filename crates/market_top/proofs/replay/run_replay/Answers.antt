@@ -4,7 +4,7 @@ use Rattle.rules_file.specs.Rules.{rules_of}
 use Rattle.market_top.specs.Check.{no_rules}
 use Rattle.market_top.specs.Replay.{IsReplayVerdict, IsScriptVerdict}
 use Rattle.market_top.specs.Verdict.{OnFile, unread}
-use Rattle.market_top.proofs.ReplayLemmas.{OnFile-since, Rises-since, no-rules-replayed, rules-replayed}
+use Rattle.market_top.proofs.ReplayLemmas.{OnFile-since, Rises-since, no-rules-on, rules-on}
 use Rattle.market_top.proofs.VerdictLemmas.{Answered-by, Delivered-told, no-rules-out, unread-is, unread-out}
 use Rattle.market_top.proofs.replay.run_replay.Goals as goal
 
@@ -23,7 +23,7 @@ returns-in-Ok-read_rules g c =
     let said : rules_of c.in-Ok.bytes.items ≡ Ok rules = ap rules_of (sym c.deref.ensures.value) ∙ c.in-Ok-read_rules.ensures.exact in
     let verdict = c.replay_under.ensures.verdict in
     Answered-by _ _ _ _ _ _ _ _ _ _ _ _ _ _ _ verdict.0 _
-    (rules-replayed _ _ files _ c.args.rules.now (OnFile 101000000 files _ c.args.script.now) c.in-Ok.bytes.items c.in-Ok.ensures.bytes rules verdict.0 said
+    (rules-on files _ c.args.rules.now (λ said. OnFile 101000000 files _ c.args.script.now (IsScriptVerdict _ _ said)) c.in-Ok.bytes.items c.in-Ok.ensures.bytes rules verdict.0 said
     (OnFile-since 101000000 files _ _ _ c.args.script.now (IsScriptVerdict _ _ rules) verdict.0 c.read_whole.ensures.files (Rises-since _ _ _ c.read_whole.ensures.count) verdict.1))
     verdict.2 (omega arith)
 
@@ -33,5 +33,5 @@ returns g c =
     let files = g.F.Shelf.files c.args.shelf.now in
     let fails : Fails fault (rules_of c.in-Ok.bytes.items) = rw (← c.deref.ensures.value) c.in-Err-read_rules.ensures.exact in
     Answered-by _ _ _ _ _ _ _ _ _ _ _ _ _ _ _ (no_rules fault) _
-    (no-rules-replayed _ _ files _ c.args.rules.now (OnFile 101000000 files _ c.args.script.now) c.in-Ok.bytes.items c.in-Ok.ensures.bytes fault fails)
+    (no-rules-on files _ c.args.rules.now (λ said. OnFile 101000000 files _ c.args.script.now (IsScriptVerdict _ _ said)) c.in-Ok.bytes.items c.in-Ok.ensures.bytes fault fails)
     (Delivered-told _ _ _ _ (no_rules fault) _ _ _ _ (no-rules-out fault) c.tell_no_rules.ensures) (omega arith)

@@ -1,22 +1,70 @@
-use Rattle.std.proofs.Common.{◌≡◌, ◌∷◌, [], ◌++◌, sym, subst, arith}
-use Rattle.std.proofs.lemmas.Grind.{common_steps}
-use Rattle.book_law.specs.BookView.{IsBookView}
-use Rattle.order_book.proofs.CallLemmas.{added}
-use Rattle.order_book.proofs.ViewLemmas.{inserted-stands}
+use Rattle.std.proofs.Common.{refl, sym, ◌∙◌, ap, subst}
+use Rattle.order_list.specs.Lists.{with_last}
+use Rattle.order_book.specs.Fields.{AreFields, book_of}
+use Rattle.order_book.specs.Linked.{linked}
+use Rattle.book_law.specs.BookView.{IsInserted}
+use Rattle.order_book.proofs.BookLemmas.{bought, inserted-linked, inserted-view, limit-bought, market-bought, market-sold, number-fits, sold}
 use Rattle.order_book.proofs.book.Book.insert.Goals as goal
 
-pushed : (c : goal.After-at) → c.push.new.self.items ≡ c.self.inside.orders.items ++ c.args.order ∷ []
-pushed c = grind (arith, common_steps)
+pub level_of-level-requires : goal.level_of-level-requires
+unfolding AreFields book_of
+level_of-level-requires c =
+    let f = c.self.inside in
+    number-fits f.prices f.capacity f.buckets f.held f.levels f.owners f.depths c.self.invariant c.args.self.now c.self.view_is c.args.order c.requires
 
-pub returns : goal.returns
-returns c =
-    let fields = c.self.inside in
-    added fields.prices fields.capacity fields.orders.items c.args.self.now c.self.view_is c.args.order c.at.result c.push.new.self.items c.at.ensures (pushed c) c.requires
+pub add-requires-clause-bought : goal.add-requires-clause-bought
+unfolding AreFields book_of
+add-requires-clause-bought c =
+    let f = c.self.inside in
+    bought f.prices f.capacity f.buckets f.held f.levels f.owners f.depths c.self.invariant c.args.self.now c.self.view_is c.args.order c.requires
+
+pub add-requires-clause-sold : goal.add-requires-clause-sold
+unfolding AreFields book_of
+add-requires-clause-sold c =
+    let f = c.self.inside in
+    sold f.prices f.capacity f.buckets f.held f.levels f.owners f.depths c.self.invariant c.args.self.now c.self.view_is c.args.order c.requires
+
+pub add-requires-clause-market_bought : goal.add-requires-clause-market_bought
+unfolding AreFields book_of
+add-requires-clause-market_bought c =
+    let f = c.self.inside in
+    market-bought f.prices f.capacity f.buckets f.held f.levels f.owners f.depths c.self.invariant c.args.self.now c.self.view_is c.args.order c.requires
+
+pub add-requires-clause-market_sold : goal.add-requires-clause-market_sold
+unfolding AreFields book_of
+add-requires-clause-market_sold c =
+    let f = c.self.inside in
+    market-sold f.prices f.capacity f.buckets f.held f.levels f.owners f.depths c.self.invariant c.args.self.now c.self.view_is c.args.order c.requires
+
+pub add-requires-clause-limit_bought : goal.add-requires-clause-limit_bought
+unfolding AreFields book_of
+add-requires-clause-limit_bought c =
+    let f = c.self.inside in
+    limit-bought f.prices f.capacity f.buckets f.held f.levels f.owners f.depths c.self.invariant c.args.self.now c.self.view_is c.args.order c.requires
 
 pub invariant_of-self : goal.invariant_of-self
+unfolding AreFields book_of
 invariant_of-self c =
-    let new = returns c in
-    record {
-      book = subst IsBookView (sym new.slots) (inserted-stands c.args.self.now c.args.order c.at.result (subst IsBookView c.self.view_is c.self.invariant.book) c.requires new.fresh);
-      room = omega (arith, c.self.invariant.room, c.push.ensures.capacity);
-    }
+    let f = c.self.inside in
+    inserted-linked f.prices f.capacity f.buckets f.held f.levels f.owners f.depths c.self.invariant c.args.self.now c.self.view_is c.args.order c.requires
+    c.push_back-link.new.self c.set.new.self c.push_back.new.self c.push_back-2.new.self c.add.new.self c.push_back-link.result c.push_back.result c.push_back-2.result c.level_of-level.result c.bucket-owner.result
+    _ _ refl c.push_back-link.ensures.lists c.push_back-link.ensures.fresh c.push_back-link.ensures.spare c.set.ensures.lists c.set.ensures.spare
+    c.level_of-level.ensures
+    (c.push_back.ensures.lists ∙ ap (λ h. with_last c.level_of-level.result (record { link = c.push_back.result; item = h }) f.levels.lists) c.new-handle.ensures) c.push_back.ensures.unused c.push_back.ensures.spare
+    c.bucket-owner.ensures.exact c.bucket-owner.ensures.within
+    (c.push_back-2.ensures.lists ∙ ap (λ h. with_last c.bucket-owner.result (record { link = c.push_back-2.result; item = h }) f.owners.lists) c.new-handle.ensures) c.push_back-2.ensures.unused c.push_back-2.ensures.spare
+    c.add.ensures
+
+pub returns : goal.returns
+unfolding AreFields book_of
+returns c =
+    let f = c.self.inside in
+    subst (λ h. IsInserted c.args.self.now c.args.order h (linked f.prices f.capacity c.set.new.self.lists)) (sym c.new-handle.ensures)
+    (inserted-view f.prices f.capacity f.buckets f.held f.levels f.owners f.depths c.self.invariant c.args.self.now c.self.view_is c.args.order c.requires
+    c.push_back-link.new.self c.set.new.self c.push_back.new.self c.push_back-2.new.self c.add.new.self c.push_back-link.result c.push_back.result c.push_back-2.result c.level_of-level.result c.bucket-owner.result
+    _ _ refl c.push_back-link.ensures.lists c.push_back-link.ensures.fresh c.push_back-link.ensures.spare c.set.ensures.lists c.set.ensures.spare
+    c.level_of-level.ensures
+    (c.push_back.ensures.lists ∙ ap (λ h. with_last c.level_of-level.result (record { link = c.push_back.result; item = h }) f.levels.lists) c.new-handle.ensures) c.push_back.ensures.unused c.push_back.ensures.spare
+    c.bucket-owner.ensures.exact c.bucket-owner.ensures.within
+    (c.push_back-2.ensures.lists ∙ ap (λ h. with_last c.bucket-owner.result (record { link = c.push_back-2.result; item = h }) f.owners.lists) c.new-handle.ensures) c.push_back-2.ensures.unused c.push_back-2.ensures.spare
+    c.add.ensures)

@@ -1,0 +1,15 @@
+pub mod AuditLemmas
+pub mod BackLemmas
+pub mod BoardLemmas
+pub mod Choices
+pub mod FillLemmas
+pub mod FollowLemmas
+pub mod FormLemmas
+pub mod HoldLemmas
+pub mod KeptLemmas
+pub mod LineLemmas
+pub mod PathLemmas
+pub mod RunLemmas
+pub mod SoundLemmas
+pub mod TakenLemmas
+pub mod TellLemmas

@@ -1,0 +1,5 @@
+pub mod Kept
+pub mod Reading
+pub mod Reports
+pub mod State
+pub mod Told

@@ -1,0 +1,3 @@
+mod desk;
+mod lines;
+mod stages;

@@ -1,0 +1,4 @@
+mod audited;
+mod call;
+mod made;
+mod words;

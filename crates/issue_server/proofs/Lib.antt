@@ -1,0 +1,5 @@
+pub mod SeenLemmas
+pub mod Meeting
+pub mod Recording
+pub mod Showing
+mod Examples

@@ -1,0 +1,5 @@
+use Rattle.std.proofs.Common.{rules}
+use Rattle.market_top.proofs.auditing.write_answer.Goals as goal
+
+pub returns : goal.returns
+returns g c = search (rules, c.finish.ensures _ _ _ (c.print_line.ensures.printed _ _ c.new-printer.ensures.nothing))

@@ -1,0 +1,5 @@
+use Rattle.run_report.proofs.CountLemmas.{output_counted}
+use Rattle.run_report.proofs.totals.CountingWatchWatch.trade.Goals as goal
+
+pub returns : goal.returns
+returns c = λ from outputs before. output_counted outputs _ before c.add.ensures

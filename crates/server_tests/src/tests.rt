@@ -1,0 +1,11 @@
+mod answers;
+mod callers;
+mod cases;
+mod counts;
+mod events;
+mod issues;
+mod machines;
+mod rows;
+mod texts;
+mod threads;
+mod turns;

@@ -1,0 +1,4 @@
+mod CatchLemmas
+mod PlayLemmas
+mod SightLemmas
+mod UptoLemmas

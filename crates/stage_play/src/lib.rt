@@ -1,0 +1,11 @@
+//! The gateways of a script at their desks, stage by stage, each in a thread of its own.
+#![tactic(auto)]
+
+mod part;
+mod seen;
+mod sights;
+mod stages;
+
+pub use part::Part;
+pub use seen::{SeenDesk, Sight};
+pub use stages::play_stages;
