@@ -24,7 +24,7 @@ use Rattle.issue_journal.specs.Turned.{HasPlace, HasTurned, IsFull, TurnDone, Wa
 use Rattle.issue_server.specs.Served.{GoesOnFrom, HadNoNode, HasAnswered, HasEntered, HasRoom, HasTakenTurn, HasTried, IsServed, StaysHalted, WasFull, caller_of}
 use Rattle.issue_server.specs.declared.served.TryStop.{TryStop}
 use Rattle.issue_server.specs.declared.served.TryStop.TheVariants.{Stop}
-use Rattle.issue_server.proofs.SeenLemmas.{entries_in-append, entries_in-of, halt_in-front, halt_in-last, halt-of_others, losses-lost, marks_in-halted, marks_in-more}
+use Rattle.issue_server.proofs.SeenLemmas.{journal-seen, entries_in-append, entries_in-of, halt_in-front, halt_in-last, halt-of_others, losses-lost, marks_in-halted, marks_in-more}
 
 -- the marks of an issue
 abbrev pub marks_at : IssueNow → List Mark
@@ -239,6 +239,7 @@ module _ (p : Known Fixed) (x : IssueNow) (goes : GoesOn marks_at fixed_at p x) 
         record {
           turn = subst (λ (z : Known Fixed). HasTakenTurn p z) (sym is) refl;
           grows = begins_trans p.seen (marks_at x) q.seen sees-from grows;
+          whole = journal-seen y.entries y.halt q.seen (ap (λ (k : Known Fixed). k.seen) is);
           holds = holds;
           answered = subst (λ (z : Known Fixed). HasAnswered event answer p z) (sym is) (answered answer turned full);
           halted = subst (λ (z : Known Fixed). StaysHalted answer p z) (sym is) (stays-halted answer turned);

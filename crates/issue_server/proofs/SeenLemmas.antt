@@ -8,7 +8,7 @@ use Rattle.mkt_base.specs.declared.journal.Halt.{Halt}
 use Rattle.turn_cell.specs.Marks.{marks_in, entries_in, halt_in, marks_of, end_of, Begins, IsLoss}
 use Rattle.turn_cell.specs.declared.value.Mark.{Mark}
 use Rattle.turn_cell.specs.declared.value.Mark.TheVariants.{Made, Ended}
-use Rattle.turn_cell.proofs.Marks.{marks_of_hit, nothing_more}
+use Rattle.turn_cell.proofs.Marks.{entries_in-made, halt_in-made, marks_of_hit, nothing_more}
 use Rattle.issue_machine.specs.History.{entries_by}
 use Rattle.turn_writer.specs.Losses.{losses_from}
 
@@ -59,7 +59,7 @@ halt_in-front [] r h e = absurd (cc)
 halt_in-front (Made x ∷ a) r h e = halt_in-front a r h e
 halt_in-front (Ended x ∷ a) r h e = e
 
-halt_in-behind : (a r : List Mark) → halt_in a ≡ None → halt_in (a ++ r) ≡ halt_in r
+pub halt_in-behind : (a r : List Mark) → halt_in a ≡ None → halt_in (a ++ r) ≡ halt_in r
 halt_in-behind [] r e = refl
 halt_in-behind (Made x ∷ a) r e = halt_in-behind a r e
 halt_in-behind (Ended x ∷ a) r e = absurd (cc)
@@ -78,7 +78,7 @@ halt_in-last (x ∷ es) end (Made y ∷ a) r h is e = halt_in-last es end a r h 
 halt_in-last (x ∷ es) end (Ended y ∷ a) r h is e = absurd (cc)
 
 -- the halt that a list has is a mark of its caller
-halt-marked : (c : ℕ) (l : List Mark) (h : Halt) → halt_in l ≡ Some h → h.caller.0 ≡ c → marks_of c l ≡ [] → ⊥
+pub halt-marked : (c : ℕ) (l : List Mark) (h : Halt) → halt_in l ≡ Some h → h.caller.0 ≡ c → marks_of c l ≡ [] → ⊥
 halt-marked c [] h e same none = cc
 halt-marked c (Made x ∷ l) h e same none = halt-marked c l h e same (by_test (eqb x.caller.0 c) none)
   where
@@ -100,3 +100,11 @@ pub halt-of_others : (c : ℕ) (a l made : List Mark) → Begins a l → marks_o
     → (h : Halt) → halt_in l ≡ Some h → h.caller.0 ≢ c
 halt-of_others c a l made p here all none h is = λ (same : h.caller.0 ≡ c).
     halt-marked c p.0 h (sym (halt_in-behind a p.0 none) ∙ (ap halt_in (sym p.1) ∙ is)) same (nothing_more c a p.0 l made p.1 here all)
+
+-- ---- journals
+
+-- the marks of a journal and its halt are those of what is read off them
+pub journal-seen : (es : List Entry) (h : Option Halt) (ms : List Mark) → ms ≡ marks_in es h → ms ≡ marks_in (entries_in ms) (halt_in ms)
+journal-seen es h ms is =
+    subst (λ (k : List Mark). k ≡ marks_in (entries_in k) (halt_in k)) (sym is)
+    (sym (ap (λ (l : List Entry). marks_in l (halt_in (marks_in es h))) (entries_in-made es h) ∙ ap (λ (o : Option Halt). marks_in es o) (halt_in-made es h)))

@@ -3,7 +3,7 @@ use Rattle.std.proofs.Common.{◌≡◌, ℕ, ◌+◌, List, [], ◌++◌, lengt
 use Rattle.std.specs.Prelude.{Some}
 use Rattle.mkt_base.specs.declared.event.Entry.{Entry}
 use Rattle.mkt_base.specs.declared.quote.Board.{Board}
-use Rattle.turn_cell.specs.Marks.{added_to, entries_in, own_mark, IsTurn}
+use Rattle.turn_cell.specs.Marks.{added_to, entries_in, halt_in, marks_in, own_mark, IsTurn}
 use Rattle.turn_cell.specs.Passes.{Known, GoesOn, entered, left_with}
 use Rattle.turn_cell.specs.Steps.{SeesMore}
 use Rattle.turn_cell.specs.declared.value.Mark.{Mark}
@@ -14,6 +14,7 @@ use Rattle.issue_journal.specs.Issue.{Fixed, IssueNow}
 use Rattle.issue_server.specs.Meeting.{HaltsByOthers}
 use Rattle.issue_server.specs.Served.{HasOnlySeen, IsBoardSeen}
 use Rattle.issue_server.proofs.Meeting.{others}
+use Rattle.issue_server.proofs.SeenLemmas.{journal-seen}
 use Rattle.issue_server.proofs.Recording.{fixed_at, marks_at, sees-from}
 
 -- the pass after a turn that left the marks as they were
@@ -75,3 +76,6 @@ module _ (p t : Known Fixed) (x z : IssueNow) (is : t ≡ entered p (marks_at x)
 
     pub show-length : (board : Board) → board ≡ board_of z.fixed.terms (state_after z.fixed.terms z.entries) → board.length ≡ length (entries_in q.seen)
     show-length board b = length-seen p q x goes left-same board (board-at board b)
+
+    pub show-whole : q.seen ≡ marks_in (entries_in q.seen) (halt_in q.seen)
+    show-whole = journal-seen x.entries x.halt q.seen (ap (λ (k : Known Fixed). k.seen) left-same)

@@ -22,3 +22,7 @@ pub record AreTheirs (journal : List Entry) (p : Known Fixed) : Type 0 where
   pub own : entries_by p.caller journal ≡ entries_in p.made
   pub met : All (λ g. entries_by g.caller journal ≡ entries_in g.made) p.met
   pub nobody_else : (caller : ℕ) → caller ≢ 0 → names_in caller p ≡ 0 → entries_by caller journal ≡ []
+
+-- a halt that was seen is of the pass's caller, or of one that it has met
+abbrev pub IsHaltTheirs : Known Fixed → Type 0
+IsHaltTheirs p = (halt : Halt) → halt_in p.seen ≡ Some halt → names_in halt.caller.0 p ≡ 0 → ⊥

@@ -9,7 +9,7 @@ use Rattle.mkt_base.specs.declared.journal.TurnStop.TheVariants.{NoNode, Journal
 use Rattle.mkt_base.specs.declared.quote.Board.{Board}
 use Rattle.mkt_base.specs.declared.units.Caller.{Caller}
 use Rattle.node_rules.specs.Nodes.{up}
-use Rattle.turn_cell.specs.Marks.{entries_in, halt_in, Begins}
+use Rattle.turn_cell.specs.Marks.{entries_in, halt_in, marks_in, Begins}
 use Rattle.turn_cell.specs.Passes.{Known, tried, Holds}
 use Rattle.turn_cell.specs.declared.value.Mark.TheVariants.{Made}
 use Rattle.issue_machine.specs.History.{entries_by, nodes_after}
@@ -113,11 +113,16 @@ HasAnswered event (Err stop) p q = HasStopped event stop p q
 abbrev pub StaysHalted : Result Reply TurnStop → Known Fixed → Known Fixed → Type 0
 StaysHalted answer p q = (halt : Halt) → halt_in p.seen ≡ Some halt → (answer ≡ Err NoNode) × (q.seen ≡ p.seen)
 
+-- what was seen is a journal, with its halt at the end where there is one
+abbrev pub IsJournalSeen : Known Fixed → Type 0
+IsJournalSeen q = q.seen ≡ marks_in (entries_in q.seen) (halt_in q.seen)
+
 -- A turn for an event was taken: it is counted; what is seen goes on from what was seen, by whole turns; the pass's own marks, and those of
 -- the callers that it met, are those that they made; the answer has its cause; and a halt that was seen stays.
 pub record IsServed (event : Event) (answer : Result Reply TurnStop) (p q : Known Fixed) : Type 0 where
   pub turn : HasTakenTurn p q
   pub grows : Begins p.seen q.seen
+  pub whole : IsJournalSeen q
   pub holds : Holds q.seen q
   pub answered : HasAnswered event answer p q
   pub halted : StaysHalted answer p q

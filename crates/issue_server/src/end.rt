@@ -2,7 +2,8 @@
 ghost use Rattle.std.specs.Prelude.{◌≡◌, ◌+◌, Some, All, length};
 ghost use Rattle.turn_cell.specs.Marks.{entries_in, halt_in, Numbered};
 ghost use Rattle.issue_journal.specs.Issue.{IsIssueNow};
-ghost use Rattle.issue_server.specs.Meeting.{AreTheirs};
+ghost use Rattle.issue_server.specs.Meeting.{AreTheirs, IsHaltTheirs};
+ghost use Rattle.issue_server.specs.Served.{IsJournalSeen};
 
 use crate::Server;
 use issue_journal::Issue;
@@ -17,6 +18,8 @@ impl<N: MemoryNode> Server<N> {
         requires all_back { length pass.met + pass.block + 1 ≡ pass.callers }
         ensures journal { result.entries ≡ entries_in pass.seen }
         ensures halt { result.halt ≡ halt_in pass.seen }
+        ensures whole { IsJournalSeen pass }
+        ensures halter { IsHaltTheirs pass }
         ensures fixed { Some result.fixed ≡ pass.fixed }
         ensures theirs { AreTheirs result.entries pass }
         ensures numbered { Numbered pass.made × All (λ g. Numbered g.made) pass.met }

@@ -4,7 +4,7 @@ ghost use Rattle.turn_cell.specs.Marks.{entries_in};
 ghost use Rattle.turn_cell.specs.Passes.{Holds};
 ghost use Rattle.turn_cell.specs.Steps.{SeesMore};
 ghost use Rattle.issue_server.specs.Meeting.{HaltsByOthers};
-ghost use Rattle.issue_server.specs.Served.{HasOnlySeen, IsBoardSeen};
+ghost use Rattle.issue_server.specs.Served.{HasOnlySeen, IsBoardSeen, IsJournalSeen};
 
 use crate::{Server, Shown};
 use issue_journal::Issue;
@@ -19,6 +19,7 @@ impl<N: MemoryNode> Server<N> {
         requires { pass.cell ≡ self.now }
         ensures turn { HasOnlySeen pass result.pass }
         ensures grows { SeesMore pass.caller pass.seen result.pass.seen }
+        ensures whole { IsJournalSeen result.pass }
         ensures holds { Holds result.pass.seen result.pass }
         ensures others_halt { HaltsByOthers pass result.pass }
         ensures board { IsBoardSeen result.board result.pass }

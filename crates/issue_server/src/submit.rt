@@ -4,7 +4,7 @@ ghost use Rattle.turn_cell.specs.Marks.{Begins, entries_in, marks_in};
 ghost use Rattle.turn_cell.specs.Passes.{GoesOn, Holds, Known, entered};
 ghost use Rattle.issue_machine.specs.Journal.{IsEventOf};
 ghost use Rattle.issue_journal.specs.Issue.{Fixed, IssueNow};
-ghost use Rattle.issue_server.specs.Served.{HasAnswered, HasTakenTurn, HasTried, IsServed, StaysHalted, StaysThePass};
+ghost use Rattle.issue_server.specs.Served.{HasAnswered, HasTakenTurn, HasTried, IsJournalSeen, IsServed, StaysHalted, StaysThePass};
 
 use crate::{Served, Server, Tried, TryStop};
 use issue_journal::Issue;
@@ -25,6 +25,7 @@ impl<N: MemoryNode> Server<N> {
         requires event { IfSome pass.fixed (λ f. IsEventOf f.participants event) }
         ensures turn { HasTakenTurn pass result.pass }
         ensures grows { Begins pass.seen result.pass.seen }
+        ensures whole { IsJournalSeen result.pass }
         ensures holds { Holds result.pass.seen result.pass }
         ensures answered { HasAnswered event result.result pass result.pass }
         ensures halted { StaysHalted result.result pass result.pass }

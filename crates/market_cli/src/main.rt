@@ -3,7 +3,7 @@
 
 use market_top::{Status, file_words, run_market};
 use memory_node::MemRack;
-use mkt_io::{FileShelf, Sink, StdSink, WriteFault, write_all};
+use mkt_io::{FileShelf, NoGate, Sink, StdSink, WriteFault, write_all};
 use std::env::{self, Env};
 use std::io::ErrorKind;
 use std::process::ExitCode;
@@ -23,12 +23,14 @@ fn main(rt: HostRuntime) -> ExitCode {
     };
     let mut shelf = FileShelf::new(&rt, file_words(&words));
     let status = run_market(
+        &rt,
         rt.alloc(),
         &words,
         &mut shelf,
         &mut out,
         &mut err,
         &mut rack,
+        &NoGate,
     );
     ExitCode::from(status.0)
 }

@@ -1,5 +1,5 @@
 -- An issue that may be printed has a synchronised node at its end exactly where it is not halted.
-use Rattle.std.proofs.Common.{◌≡◌, ℕ, Bool, true, false, not, ◌&&◌, ◌||◌, if◌then◌else◌, List, [], ◌∷◌, ◌++◌, Option, Some, None, All, length, refl, sym, ap, subst, ◌∙◌, append_assoc, append-nil, is_some}
+use Rattle.std.proofs.Common.{◌≡◌, ℕ, Bool, true, false, not, ◌&&◌, ◌||◌, if◌then◌else◌, List, [], ◌∷◌, ◌++◌, Option, Some, None, All, length, refl, sym, ap, ◌∙◌, append_assoc, append-nil, is_some}
 use Rattle.std.proofs.lemmas.List.Elements.{All-head, All-tail}
 use Rattle.std.specs.List.{list_all, list_any}
 use Rattle.mkt_base.specs.declared.event.Entry.{Entry}
@@ -10,7 +10,7 @@ use Rattle.node_rules.specs.Nodes.{has_synchronised}
 use Rattle.issue_machine.specs.History.{FollowOn, IsHistory, nodes_after}
 use Rattle.run_report.specs.Report.{IsEnded}
 use Rattle.run_report.specs.declared.ended.EndedIssue.{EndedIssue}
-use Rattle.market_top.specs.Replay.{has_node, nodes_left, status_of}
+use Rattle.market_top.specs.Reporting.{has_node, nodes_left, status_of}
 
 -- an issue is halted
 abbrev pub is_halted : EndedIssue → Bool

@@ -24,7 +24,7 @@ use Rattle.script_file.specs.declared.script.Script.{Script}
 use Rattle.market_top.specs.Auction.{IsAuctionVerdict, IsFileVerdict, certified}
 use Rattle.market_top.specs.Check.{IsCheckVerdict, OnRules, no_rules, refused_rules, tabled}
 use Rattle.script_file.specs.Generated.{generated}
-use Rattle.market_top.specs.Command.{Asked, auction, audit, check, gen, replay, replay_made}
+use Rattle.market_top.specs.Command.{Asked, auction, audit, check, gen, replay, replay_made, run}
 use Rattle.audit.specs.Reports.{IsVerdict as IsTextVerdict}
 use Rattle.text_match.specs.declared.matcher.Verdict as text
 use Rattle.text_match.specs.declared.matcher.Verdict.TheVariants.{No, Yes}
@@ -34,7 +34,11 @@ use Rattle.market_top.specs.declared.extent.Extent.{Extent}
 use Rattle.market_top.specs.declared.extent.Extent.TheVariants.{Totals, Whole}
 use Rattle.market_top.specs.Program.{Answered, IsVerdict}
 use Rattle.run_report.specs.declared.ended.EndedIssue.{EndedIssue}
-use Rattle.market_top.specs.Replay.{IsReplayVerdict, IsReplayed, IsReported, IsScriptVerdict, OnScript, has_node, status_of}
+use Rattle.run_report.specs.Report.{Run}
+use Rattle.market_top.specs.Files.{OnFiles, OnScript, OnScriptFile}
+use Rattle.market_top.specs.Replay.{IsReplay, IsReplayed}
+use Rattle.market_top.specs.Reporting.{IsReportOf, IsReported, has_node, status_of}
+use Rattle.market_top.specs.ScriptRun.{IsPlayed, IsScriptRun}
 use Rattle.market_top.specs.Verdict.{Delivered, IsRead, OnFile, Told, Verdict, no_memory, refused_words, unread}
 
 -- nothing is written
@@ -162,12 +166,9 @@ audit-caused asked files shelf_failed report (Ok rules) v is =
     caused-within asked 268435456 files shelf_failed report (IsAuditedUnder rules) (λ bytes w said. audited-caused asked shelf_failed rules bytes w said) v is
 
 -- what is told of a run
-script-caused : (asked : Option Asked) (shelf_failed : Type 0) (extent : Extent) (is_out : Label → Type 0) (given : Label → Option Given) (rules : Rules) (read : Result Script ScriptFault) (v : Verdict)
-    → OnScript read (IsReplayed extent is_out given rules) v → IsCaused asked shelf_failed v.status
-script-caused asked shelf_failed extent is_out given rules (Err (At number fault)) v is = let one : v.status ≡ 1 = ap (λ (w : Verdict). w.status) is in caused-done asked shelf_failed v (omega arith)
-script-caused asked shelf_failed extent is_out given rules (Err NoMemory) v is = caused-no_memory asked shelf_failed v is
-script-caused asked shelf_failed extent is_out given rules (Ok script) v (inl is) = caused-no_memory asked shelf_failed v is
-script-caused asked shelf_failed extent is_out given rules (Ok script) v (inr is) = by is.2
+report-caused : (asked : Option Asked) (shelf_failed : Type 0) (extent : Extent) (rules : Rules) (made : Run → Type 0) (v : Verdict) → IsReportOf extent rules made v → IsCaused asked shelf_failed v.status
+report-caused asked shelf_failed extent rules made v (inl is) = caused-no_memory asked shelf_failed v is
+report-caused asked shelf_failed extent rules made v (inr is) = by is.2
   where
     whole-run : v.status ≡ status_of is.0.issues → (status_of is.0.issues ≡ 0) ⊎ (status_of is.0.issues ≡ 6) → IsCaused asked shelf_failed v.status
     whole-run same (inl zero) = caused-done asked shelf_failed v (omega (arith, same, zero))
@@ -177,19 +178,33 @@ script-caused asked shelf_failed extent is_out given rules (Ok script) v (inr is
     by (inl whole) = whole-run (ap (λ (w : Verdict). w.status) whole) (status-known is.0.issues)
     by (inr part) = let five : v.status ≡ 5 = ap (λ (w : Verdict). w.status) part.1 in caused-late asked shelf_failed v (omega arith) (omega arith)
 
+-- a script that is refused, or on which there is a verdict
+script-caused : (asked : Option Asked) (shelf_failed : Type 0) (on : Script → Verdict → Type 0) → ((script : Script) (w : Verdict) → on script w → IsCaused asked shelf_failed w.status)
+    → (read : Result Script ScriptFault) (v : Verdict) → OnScript read on v → IsCaused asked shelf_failed v.status
+script-caused asked shelf_failed on causes (Err (At number fault)) v is = let one : v.status ≡ 1 = ap (λ (w : Verdict). w.status) is in caused-done asked shelf_failed v (omega arith)
+script-caused asked shelf_failed on causes (Err NoMemory) v is = caused-no_memory asked shelf_failed v is
+script-caused asked shelf_failed on causes (Ok script) v is = causes script v is
+
+-- a rules file and a script
+module _ (asked : Option Asked) (files : Option (List ℕ → Option (List ℕ))) (shelf_failed : Type 0) (script : List ℕ) (on : Rules → Script → Verdict → Type 0)
+    (causes : (rules : Rules) (said : Script) (w : Verdict) → on rules said w → IsCaused asked shelf_failed w.status) where
+  under-caused : (read : Result Rules RulesFault) (v : Verdict) → OnRules read (OnScriptFile files shelf_failed script on) v → IsCaused asked shelf_failed v.status
+  under-caused (Err fault) v is = let one : v.status ≡ 1 = ap (λ (w : Verdict). w.status) is in caused-done asked shelf_failed v (omega arith)
+  under-caused (Ok rules) v is =
+      caused-within asked 101000000 files shelf_failed script (λ bytes. OnScript (script_of rules bytes) (on rules)) (λ bytes w said. script-caused asked shelf_failed (on rules) (causes rules) (script_of rules bytes) w said) v is
+
+  files-caused : (rules : List ℕ) (v : Verdict) → OnFiles files shelf_failed rules script on v → IsCaused asked shelf_failed v.status
+  files-caused rules v is =
+      caused-within asked 1048576 files shelf_failed rules (λ bytes. OnRules (rules_of bytes) (OnScriptFile files shelf_failed script on)) (λ bytes w said. under-caused (rules_of bytes) w said) v is
+
 -- a script that is made
 made-caused : (asked : Option Asked) (shelf_failed : Type 0) (is_out : Label → Type 0) (given : Label → Option Given) (number orders : ℕ) (read : Result Rules RulesFault) (v : Verdict)
     → OnRules read (IsMadeUnder is_out given number orders) v → IsCaused asked shelf_failed v.status
 made-caused asked shelf_failed is_out given number orders (Err fault) v is = let one : v.status ≡ 1 = ap (λ (w : Verdict). w.status) is in caused-done asked shelf_failed v (omega arith)
 made-caused asked shelf_failed is_out given number orders (Ok rules) v (inl is) = caused-no_memory asked shelf_failed v is
 made-caused asked shelf_failed is_out given number orders (Ok rules) v (inr is) =
-    script-caused asked shelf_failed Totals is_out given rules (script_of rules (generated number orders)) v is
-
-replay-caused : (asked : Option Asked) (files : Option (List ℕ → Option (List ℕ))) (shelf_failed : Type 0) (is_out : Label → Type 0) (given : Label → Option Given) (script : List ℕ) (read : Result Rules RulesFault) (v : Verdict)
-    → OnRules read (λ rules. OnFile 101000000 files shelf_failed script (IsScriptVerdict is_out given rules)) v → IsCaused asked shelf_failed v.status
-replay-caused asked files shelf_failed is_out given script (Err fault) v is = let one : v.status ≡ 1 = ap (λ (w : Verdict). w.status) is in caused-done asked shelf_failed v (omega arith)
-replay-caused asked files shelf_failed is_out given script (Ok rules) v is =
-    caused-within asked 101000000 files shelf_failed script (IsScriptVerdict is_out given rules) (λ bytes w said. script-caused asked shelf_failed Whole is_out given rules (script_of rules bytes) w said) v is
+    script-caused asked shelf_failed (IsReplayed Totals is_out given rules) (λ script w told. report-caused asked shelf_failed Totals rules (IsReplay is_out given rules script) w told)
+    (script_of rules (generated number orders)) v is
 
 caused : (asked : Option Asked) (files : Option (List ℕ → Option (List ℕ))) (shelf_failed : Type 0) (is_out : Label → Type 0) (given : Label → Option Given) (v : Verdict)
     → IsVerdict asked files shelf_failed is_out given v → IsCaused asked shelf_failed v.status
@@ -202,8 +217,9 @@ caused (Some (auction file)) files shelf_failed is_out given v is =
 caused (Some (check rules)) files shelf_failed is_out given v is =
     caused-on _ 1048576 files shelf_failed rules IsCheckVerdict (λ bytes. rules-status (rules_of bytes)) v is
 caused (Some (replay rules script)) files shelf_failed is_out given v is =
-    caused-within _ 1048576 files shelf_failed rules (IsReplayVerdict is_out given (OnFile 101000000 files shelf_failed script))
-    (λ bytes w said. replay-caused _ files shelf_failed is_out given script (rules_of bytes) w said) v is
+    files-caused _ files shelf_failed script (IsReplayed Whole is_out given) (λ said more w told. report-caused _ shelf_failed Whole said (IsReplay is_out given said more) w told) rules v is
+caused (Some (run rules script)) files shelf_failed is_out given v is =
+    files-caused _ files shelf_failed script (IsPlayed is_out given) (λ said more w told. report-caused _ shelf_failed Whole said (IsScriptRun is_out given said more) w told) rules v is
 caused (Some (replay_made number orders rules)) files shelf_failed is_out given v is =
     caused-within _ 1048576 files shelf_failed rules (IsMadeVerdict is_out given number orders)
     (λ bytes w said. made-caused _ shelf_failed is_out given number orders (rules_of bytes) w said) v is

@@ -1,5 +1,5 @@
 -- What the words of the command line ask for.
-use Rattle.std.specs.Prelude.{ℕ, Bool, not, ◌&&◌, ◌==◌, List, [], ◌∷◌, length, Option, Some, None, option_map, Result, Ok, Err, if◌then◌else◌, nat_lt, codes, slice_index}
+use Rattle.std.specs.Prelude.{ℕ, Bool, true, false, not, ◌&&◌, ◌==◌, List, [], ◌∷◌, length, Option, Some, None, option_map, Result, Ok, Err, if◌then◌else◌, nat_lt, codes, slice_index}
 use Rattle.std.specs.Str.{bytes_eq}
 use Rattle.mkt_io.specs.LineFault.{number_in}
 use Rattle.mkt_io.specs.declared.fault.LineFault.{LineFault}
@@ -12,6 +12,7 @@ pub data Asked : Type 0 where
   check : List ℕ → Asked
   replay : List ℕ → List ℕ → Asked
   replay_made : ℕ → ℕ → List ℕ → Asked
+  run : List ℕ → List ℕ → Asked
   audit : List ℕ → List ℕ → Asked
   gen : ℕ → ℕ → Asked
 
@@ -26,12 +27,13 @@ one_file name file =
     else (if bytes_eq name (codes "check") then Some (check file)
     else None)
 
--- the commands over two files: `replay RULES SCRIPT` and `audit RULES REPORT`
+-- the commands over two files: `replay RULES SCRIPT`, `run RULES SCRIPT` and `audit RULES REPORT`
 unfoldable pub two_files : List ℕ → List ℕ → List ℕ → Option Asked
 two_files name first second =
     if bytes_eq name (codes "replay") then Some (replay first second)
+    else (if bytes_eq name (codes "run") then Some (run first second)
     else (if bytes_eq name (codes "audit") then Some (audit first second)
-    else None)
+    else None))
 
 -- both numbers, where both are in range
 abbrev pub both : Result ℕ LineFault → Result ℕ LineFault → Option (ℕ × ℕ)
@@ -67,12 +69,18 @@ command_of (name ∷ first ∷ second ∷ []) = three_words name first second
 command_of (name ∷ flag ∷ number ∷ orders ∷ rules ∷ []) = five_words name flag number orders rules
 command_of words = None
 
+-- the command `run`, the one that waits
+abbrev pub is_run : Option Asked → Bool
+is_run (Some (run rules script)) = true
+is_run asked = false
+
 -- how many words a command has
 abbrev pub word_count : Asked → ℕ
 word_count (auction file) = 2
 word_count (check rules) = 2
 word_count (replay rules script) = 3
 word_count (replay_made number orders rules) = 5
+word_count (run rules script) = 3
 word_count (audit rules report) = 3
 word_count (gen number orders) = 3
 
@@ -83,6 +91,7 @@ files_of (Some (auction file)) = file ∷ []
 files_of (Some (check rules)) = rules ∷ []
 files_of (Some (replay rules script)) = rules ∷ script ∷ []
 files_of (Some (replay_made number orders rules)) = rules ∷ []
+files_of (Some (run rules script)) = rules ∷ script ∷ []
 files_of (Some (audit rules report)) = rules ∷ report ∷ []
 files_of (Some (gen number orders)) = []
 
@@ -96,5 +105,6 @@ asked (variants.Auction file) = auction file.now
 asked (variants.Check rules) = check rules.now
 asked (variants.Replay rules script) = replay rules.now script.now
 asked (variants.ReplayMade number orders rules) = replay_made number orders rules.now
+asked (variants.Run rules script) = run rules.now script.now
 asked (variants.Audit rules report) = audit rules.now report.now
 asked (variants.Gen number orders) = gen number orders

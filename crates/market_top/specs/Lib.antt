@@ -25,7 +25,10 @@ pub mod Auction
 pub mod Audit
 pub mod Check
 pub mod Command
+pub mod Files
 pub mod Made
 pub mod Program
 pub mod Replay
+pub mod Reporting
+pub mod ScriptRun
 pub mod Verdict

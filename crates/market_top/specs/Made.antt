@@ -7,7 +7,8 @@ use Rattle.rules_file.specs.declared.rules.Rules.{Rules}
 use Rattle.script_file.specs.Generated.{generated}
 use Rattle.script_file.specs.Script.{script_of}
 use Rattle.market_top.specs.Check.{OnRules}
-use Rattle.market_top.specs.Replay.{IsReplayed, OnScript}
+use Rattle.market_top.specs.Files.{OnScript}
+use Rattle.market_top.specs.Replay.{IsReplayed}
 use Rattle.market_top.specs.Verdict.{Verdict, no_memory}
 use Rattle.market_top.specs.declared.extent.Extent.TheVariants.{Totals}
 

@@ -13,7 +13,7 @@ pub record Verdict : Type 0 where
   pub out : List ℕ
   pub err : List ℕ
 
--- the commands, those among them that are to come
+-- the commands
 abbrev pub usage : List ℕ
 usage = line (codes "usage: auction FILE | check RULES | replay RULES SCRIPT | replay --gen NUMBER ORDERS RULES | run RULES SCRIPT | audit RULES REPORT | gen NUMBER ORDERS" ∷ [])
 

@@ -1,6 +1,6 @@
 // The words of the command line.
 ghost use Rattle.std.specs.Prelude.{◌≡◌, ◌&&◌, Some, None, IfSome, MatchOption, length, map, string_bytes};
-ghost use Rattle.market_top.specs.Command.{asked, command_of, file_words, five_words, gen_words, is_file_word, made_numbers, one_file, three_words, two_files, word_count};
+ghost use Rattle.market_top.specs.Command.{asked, command_of, file_words, five_words, gen_words, is_file_word, is_run, made_numbers, one_file, three_words, two_files, word_count};
 
 use mkt_io::number_in;
 
@@ -26,6 +26,11 @@ pub(crate) enum Command<'a> {
         orders: u32,
         rules: &'a str,
     },
+    /// The report of a script that is run by its gateways in threads, by the names of its rules file and its own.
+    Run {
+        rules: &'a str,
+        script: &'a str,
+    },
     /// Whether a file is a report under rules, by the names of the rules file and its own.
     Audit {
         rules: &'a str,
@@ -45,10 +50,17 @@ pub fn file_words(words: &[String]) -> &[String]
 {
     match command_of(words) {
         Some(Command::Auction { .. } | Command::Check { .. }) => &words[1..],
-        Some(Command::Replay { .. } | Command::Audit { .. }) => &words[1..],
+        Some(Command::Replay { .. } | Command::Run { .. } | Command::Audit { .. }) => &words[1..],
         Some(Command::ReplayMade { .. }) => &words[4..],
         Some(Command::Gen { .. }) | None => &words[..0],
     }
+}
+
+/// The words are the command `run`, the one that waits.
+pub fn is_run(words: &[String]) -> bool
+    ensures { result ≡ is_run (command_of (map string_bytes words.now)) }
+{
+    matches!(command_of(words), Some(Command::Run { .. }))
 }
 
 // The command that the words are; none where they are refused. A new command is a line here or in a function of its
@@ -108,6 +120,10 @@ fn two_files<'a>(name: &str, first: &'a str, second: &'a str) -> Option<Command<
 {
     match name {
         "replay" => Some(Command::Replay {
+            rules: first,
+            script: second,
+        }),
+        "run" => Some(Command::Run {
             rules: first,
             script: second,
         }),

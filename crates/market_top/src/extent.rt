@@ -4,7 +4,7 @@ ghost use Rattle.rules_file.specs.Rules.{IsRules};
 ghost use Rattle.run_report.specs.Report.{IsRun};
 ghost use Rattle.run_report.specs.Reported.{Reports};
 ghost use Rattle.script_run.specs.Running.{run_of};
-ghost use Rattle.market_top.specs.Replay.{text_of};
+ghost use Rattle.market_top.specs.Reporting.{text_of};
 
 use mkt_base::ShowLine;
 use mkt_io::Sink;
@@ -20,7 +20,7 @@ pub(crate) enum Extent {
 }
 
 // Writes what is told of a run.
-#[tactic(auto, unfolding(crate::specs::Replay::text_of))]
+#[tactic(auto, unfolding(crate::specs::Reporting::text_of))]
 pub(crate) fn write_run<O: Sink>(
     alloc: Global,
     out: &mut O,

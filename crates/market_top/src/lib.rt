@@ -6,9 +6,12 @@ mod auditing;
 mod check;
 mod command;
 mod extent;
+mod gateways;
 mod made;
 mod program;
+mod reading;
 mod replay;
+mod reporting;
 
-pub use command::file_words;
-pub use program::{Status, run_market, run_plain};
+pub use command::{file_words, is_run};
+pub use program::{Status, run_market, run_plain, run_threads};

@@ -1,19 +1,22 @@
 // The calls of the program.
-ghost use Rattle.std.specs.Prelude.{◌≡◌, map, string_bytes};
+ghost use Rattle.std.specs.Prelude.{◌≡◌, true, false, map, string_bytes};
 ghost use Rattle.memory_node.specs.declared.node.Label.{Label};
-ghost use Rattle.market_top.specs.Command.{command_of, file_words};
+ghost use Rattle.market_top.specs.Command.{command_of, file_words, is_run};
 ghost use Rattle.market_top.specs.Program.{Answered};
 ghost use Rattle.market_top.specs.Verdict.{Told, unread};
 
 use crate::auction::run_auction;
 use crate::auditing::run_audit;
 use crate::check::run_check;
-use crate::command::{Command, command_of};
+use crate::command::{Command, command_of, is_run};
+use crate::gateways::run_gateways;
 use crate::made::{run_gen, run_made};
 use crate::replay::run_replay;
 use memory_node::Rack;
-use mkt_io::{ReadFault, Shelf, Sink, WriteFault, write_all};
+use mkt_io::{Gate, ReadFault, Shelf, Sink, WriteFault, write_all};
 use std::alloc::Global;
+use std::sync::Wait;
+use std::thread::Threads;
 
 /// The exit status of a call: 0 done, 1 the file is refused, 2 the words are refused, 3 the file was not
 /// read, 4 a text was not written, 5 there was no memory, 6 done, but an issue is halted, 7 the text that is
@@ -46,14 +49,17 @@ const USAGE: &str =
 
 /// Does what the words ask for: reads from the shelf, writes the answer to `out` and a line for a refusal or a
 /// fault to `err`. The nodes of a script's issues are taken from the rack, and are back in it before the first byte of the
-/// report is written; want of memory may leave some out. It always returns.
-pub fn run_market<F: Shelf, O: Sink, E: Sink, R: Rack>(
+/// report is written; want of memory may leave some out. The gateways of `run` pass the gate, each in a thread of its own, and wait for one
+/// another: this call may wait.
+pub fn run_market<T: Threads + Wait + Sync, F: Shelf, O: Sink, E: Sink, R: Rack, G: Gate + Sync>(
+    rt: &T,
     alloc: Global,
     words: &[String],
     shelf: &mut F,
     out: &mut O,
     err: &mut E,
     rack: &mut R,
+    gate: &G,
 ) -> Status
     requires names { F.names shelf.old ≡ file_words (map string_bytes words.now) }
     requires rack { (l : Label) → R.is_out rack.old l → ⊥ }
@@ -61,10 +67,40 @@ pub fn run_market<F: Shelf, O: Sink, E: Sink, R: Rack>(
         (R.is_out rack.new) (R.given rack.new) (command_of (map string_bytes words.now))
         shelf.old out.old err.old shelf.new out.new err.new result.0 }
 {
-    run_plain(alloc, words, shelf, out, err, rack)
+    if is_run(words) {
+        run_threads(rt, alloc, words, shelf, out, err, rack, gate)
+    } else {
+        run_plain(alloc, words, shelf, out, err, rack)
+    }
 }
 
-/// As `run_market`, for the commands that wait for nobody.
+/// As `run_market`, for the command `run`. It may wait.
+pub fn run_threads<T: Threads + Wait + Sync, F: Shelf, O: Sink, E: Sink, R: Rack, G: Gate + Sync>(
+    rt: &T,
+    alloc: Global,
+    words: &[String],
+    shelf: &mut F,
+    out: &mut O,
+    err: &mut E,
+    rack: &mut R,
+    gate: &G,
+) -> Status
+    requires names { F.names shelf.old ≡ file_words (map string_bytes words.now) }
+    requires rack { (l : Label) → R.is_out rack.old l → ⊥ }
+    requires run { is_run (command_of (map string_bytes words.now)) ≡ true }
+    ensures { Answered F.files F.faults O.contents O.faults E.contents E.faults
+        (R.is_out rack.new) (R.given rack.new) (command_of (map string_bytes words.now))
+        shelf.old out.old err.old shelf.new out.new err.new result.0 }
+{
+    match command_of(words) {
+        Some(Command::Run { rules, script }) => {
+            run_gateways(rt, alloc, rules, script, shelf, out, err, rack, gate)
+        }
+        _ => unreachable!(),
+    }
+}
+
+/// As `run_market`, for all words but the command `run`, refused ones too. It waits for nobody and always returns.
 pub fn run_plain<F: Shelf, O: Sink, E: Sink, R: Rack>(
     alloc: Global,
     words: &[String],
@@ -75,6 +111,7 @@ pub fn run_plain<F: Shelf, O: Sink, E: Sink, R: Rack>(
 ) -> Status
     requires names { F.names shelf.old ≡ file_words (map string_bytes words.now) }
     requires rack { (l : Label) → R.is_out rack.old l → ⊥ }
+    requires plain { is_run (command_of (map string_bytes words.now)) ≡ false }
     ensures { Answered F.files F.faults O.contents O.faults E.contents E.faults
         (R.is_out rack.new) (R.given rack.new) (command_of (map string_bytes words.now))
         shelf.old out.old err.old shelf.new out.new err.new result.0 }
@@ -92,6 +129,7 @@ pub fn run_plain<F: Shelf, O: Sink, E: Sink, R: Rack>(
                 rules,
             },
         ) => run_made(alloc, number, orders, rules, shelf, out, err, rack),
+        Some(Command::Run { .. }) => unreachable!(),
         Some(Command::Audit { rules, report }) => run_audit(alloc, rules, report, shelf, out, err),
         Some(Command::Gen { number, orders }) => run_gen(number, orders, out),
         None => tell(err, USAGE, Status::REFUSED_WORDS),

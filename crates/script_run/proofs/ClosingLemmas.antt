@@ -1,17 +1,16 @@
 -- Issues that are closed, and their nodes that are given back.
-use Rattle.std.proofs.Common.{◌≡◌, ◌≢◌, ◌⊎◌, ◌↔◌, ℕ, zero, suc, ◌+◌, ◌<◌, ◌≤◌, true, false, List, [], ◌∷◌, ◌++◌, length, map, drop, Option, Some, None, refl, sym, ap, subst, ◌∙◌, arith, inl, inr}
+use Rattle.std.proofs.Common.{◌≡◌, ◌≢◌, ◌⊎◌, ◌↔◌, ℕ, zero, suc, ◌+◌, ◌<◌, ◌≤◌, List, [], ◌∷◌, ◌++◌, length, drop, Option, Some, None, refl, sym, ap, subst, ◌∙◌, arith, inl, inr}
 use Rattle.std.specs.List.{slice_get}
 use Rattle.std.proofs.lemmas.Bool.{cases_eq, cases_lt}
-use Rattle.mkt_base.specs.declared.event.Entry.{Entry}
 use Rattle.mkt_base.specs.declared.journal.Halt.{Halt}
 use Rattle.mkt_base.specs.declared.journal.NodeState.{NodeState}
 use Rattle.memory_node.specs.Given.{Given}
 use Rattle.memory_node.specs.declared.node.Label.{Label}
 use Rattle.mirror.specs.Mirrored.{HoldsAs}
 use Rattle.mirror.specs.Replicas.{Replica}
-use Rattle.node_rules.specs.Nodes.{has_synchronised, node_step, state_at}
+use Rattle.node_rules.specs.Nodes.{state_at}
 use Rattle.issue_machine.specs.History.{nodes_after}
-use Rattle.issue_journal.specs.Issue.{IsHalted, IsIssueNow, IsRunning, IssueNow, Stands, recorded, recorded_since, spelled_journal}
+use Rattle.issue_journal.specs.Issue.{IsIssueNow, IssueNow, Stands, recorded, recorded_since, spelled_journal}
 use Rattle.run_report.specs.declared.ended.EndedIssue.{EndedIssue}
 use Rattle.script_run.specs.Nodes.{AreAtEnd, AreGivenBack, IsKept, node_label}
 use Rattle.script_run.specs.Running.{AreOutBelow, AreOutFrom, IsOther, ended_as}

@@ -1,25 +1,22 @@
 -- The issues and the reads of boards from line to line.
-use Rattle.std.proofs.Common.{◌≡◌, ◌≢◌, not, ◌⊎◌, inl, inr, ℕ, zero, suc, ◌+◌, ◌==◌, ◌<◌, ◌≤◌, Bool, true, false, cond, List, [], ◌∷◌, ◌++◌, length, map, min, take, drop, get_or, All, Option, Some, None, refl, sym, ap, subst, ◌∙◌, arith, append-nil, append_assoc}
+use Rattle.std.proofs.Common.{◌≡◌, ◌≢◌, not, ◌⊎◌, inl, inr, ℕ, ◌<◌, ◌≤◌, Bool, true, false, cond, List, [], ◌∷◌, ◌++◌, length, Option, Some, None, refl, sym, ap, subst, ◌∙◌, arith, append-nil}
 use Rattle.std.specs.List.{AllByRecursion, AllZip, filter, slice_get, slice_set}
 use Rattle.std.proofs.lemmas.Bool.{cases_eq}
-use Rattle.std.proofs.lemmas.List.{take_more}
-use Rattle.std.proofs.lemmas.List.Elements.{filter-append, recursion_from_All}
+use Rattle.std.proofs.lemmas.List.Elements.{filter-append}
 use Rattle.mkt_base.specs.declared.event.Event.{Event}
 use Rattle.mkt_base.specs.declared.journal.Halt.{Halt}
 use Rattle.mkt_base.specs.declared.script.Act.{Act}
 use Rattle.mkt_base.specs.declared.script.Act.TheVariants.{Do, Show}
 use Rattle.mkt_base.specs.declared.script.ShowLine.{ShowLine}
-use Rattle.book_law.proofs.Pairs.{Pairs, pairs-from_AllPairs}
-use Rattle.rules_file.specs.Rules.{gateways_in, issues_in}
+use Rattle.rules_file.specs.Rules.{gateways_in}
 use Rattle.rules_file.specs.declared.rules.Rules.{Rules}
-use Rattle.script_file.specs.Script.{IsBefore, IsScript, is_event}
+use Rattle.script_file.specs.Script.{IsBefore, is_event}
 use Rattle.script_file.specs.declared.script.GatewayScriptLine.{GatewayScriptLine}
-use Rattle.script_file.specs.declared.script.Script.{Script}
 use Rattle.issue_journal.specs.Issue.{IssueNow}
 use Rattle.run_law.specs.Replayed.{AreInFileOrder}
 use Rattle.run_law.specs.Run.{is_show}
 use Rattle.script_run.specs.Entering.{WasEntered}
-use Rattle.script_run.specs.Running.{AllAfter, AllReadNow, EachFrom, HasCome, IsAfter, IsReadNow, WasDone, WasRead, read_of}
+use Rattle.script_run.specs.Running.{AllReadNow, EachFrom, HasCome, IsAfter, IsReadNow, WasDone, WasRead, read_of}
 use Rattle.script_run.proofs.EachLemmas.{each-get, each-map, each-set, get-other, get-there, get-written, length-written, zip-map, zip-push}
 use Rattle.script_run.proofs.EnteringLemmas.{after-entered, calls-other, calls-show}
 use Rattle.script_run.proofs.ReadLemmas.{read-kept, read-made, read-shown}

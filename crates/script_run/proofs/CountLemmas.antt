@@ -1,6 +1,6 @@
 -- How many events lines ask for.
-use Rattle.std.proofs.Common.{◌≡◌, ℕ, zero, suc, ◌+◌, ◌==◌, ◌<◌, ◌≤◌, Bool, true, false, cond, ◌&&◌, List, [], ◌∷◌, ◌++◌, length, map, ◌≢◌, ◌⊎◌, inl, inr, take, drop, replicate, get_or, set, All, Option, Some, None, refl, sym, ap, subst, ◌∙◌, arith}
-use Rattle.std.specs.List.{cons_option, count_by, filter, filter_map, range_with_len}
+use Rattle.std.proofs.Common.{◌≡◌, ℕ, zero, suc, ◌+◌, ◌==◌, ◌<◌, ◌≤◌, Bool, true, false, cond, ◌&&◌, List, [], ◌∷◌, length, map, ◌≢◌, ◌⊎◌, inl, inr, take, replicate, get_or, set, All, None, refl, sym, ap, ◌∙◌, arith}
+use Rattle.std.specs.List.{cons_option, count_by, range_with_len}
 use Rattle.std.specs.Option.{option_map}
 use Rattle.std.proofs.lemmas.Bool.{eq-eqb, ne_eqb}
 use Rattle.std.proofs.lemmas.Bool.Decides.{eqb_tells}
@@ -14,7 +14,7 @@ use Rattle.mkt_base.specs.declared.script.Act.TheVariants.{Do, Show}
 use Rattle.script_file.specs.Script.{event_count, is_event}
 use Rattle.script_file.specs.declared.script.GatewayScriptLine.{GatewayScriptLine}
 use Rattle.run_law.specs.Replayed.{Call, call_in, calls_for}
-use Rattle.run_law.specs.Run.{event_in, is_show}
+use Rattle.run_law.specs.Run.{event_in}
 use Rattle.script_run.specs.Running.{count_for, counts_for, is_for}
 
 abbrev one_for : ℕ → GatewayScriptLine → ℕ

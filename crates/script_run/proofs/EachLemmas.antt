@@ -1,5 +1,5 @@
 -- What holds of each issue of a list, by its number.
-use Rattle.std.proofs.Common.{◌≡◌, ℕ, zero, suc, ◌+◌, ◌<◌, ◌≤◌, List, [], ◌∷◌, ◌++◌, length, map, Option, Some, None, refl, sym, ap, subst, ◌∙◌, arith}
+use Rattle.std.proofs.Common.{◌≡◌, ℕ, zero, suc, ◌+◌, ◌<◌, List, [], ◌∷◌, ◌++◌, length, Some, refl, ap, subst, arith}
 use Rattle.std.specs.List.{AllByRecursion, AllZip, slice_get, slice_set}
 use Rattle.issue_journal.specs.Issue.{IssueNow}
 use Rattle.script_run.specs.Running.{EachFrom}

@@ -1,10 +1,9 @@
 -- An event of a script's line is entered in its issue.
-use Rattle.std.proofs.Common.{◌≡◌, ◌⊎◌, inl, inr, ℕ, zero, suc, ◌+◌, ◌*◌, ◌==◌, ◌<◌, ◌≤◌, Bool, true, false, cond, ltb, List, [], ◌∷◌, ◌++◌, length, map, min, take, drop, All, Option, Some, None, refl, sym, ap, subst, ◌∙◌, arith, append-nil, append_assoc, length-append}
-use Rattle.std.proofs.lemmas.Bool.Decides.{nat_tests}
-use Rattle.std.specs.List.{cons_option, count_by, filter, filter_map, slice_get}
+use Rattle.std.proofs.Common.{◌≡◌, ◌⊎◌, inl, inr, ℕ, suc, ◌+◌, ◌==◌, ◌≤◌, Bool, true, false, cond, List, [], ◌∷◌, ◌++◌, length, All, Option, Some, None, refl, sym, ap, subst, ◌∙◌, arith, append-nil, append_assoc}
+use Rattle.std.specs.List.{cons_option}
 use Rattle.std.specs.Option.{IfSome, option_map}
-use Rattle.std.proofs.lemmas.Bool.{eq-eqb, eqb-false, eqb-true, ne_eqb}
-use Rattle.std.proofs.lemmas.List.Elements.{All-append, All-cons, All-nil, filter-append, filter_map-append}
+use Rattle.std.proofs.lemmas.Bool.{eq-eqb, eqb-true, ne_eqb}
+use Rattle.std.proofs.lemmas.List.Elements.{All-append, All-cons, All-nil, filter_map-append}
 use Rattle.std.proofs.lemmas.List.Sums.{sum_by-cons}
 use Rattle.mkt_base.specs.declared.event.Entry.{Entry}
 use Rattle.mkt_base.specs.declared.event.Event.{Event}
@@ -13,24 +12,21 @@ use Rattle.mkt_base.specs.declared.event.Reply.{Reply}
 use Rattle.mkt_base.specs.declared.journal.Halt.{Halt}
 use Rattle.mkt_base.specs.declared.script.Act.{Act}
 use Rattle.mkt_base.specs.declared.script.Act.TheVariants.{Do, Show}
-use Rattle.mkt_base.specs.declared.script.ShowLine.{ShowLine}
 use Rattle.mkt_base.specs.declared.units.Caller.{Caller}
-use Rattle.node_rules.specs.Nodes.{IsCrashOf, up}
-use Rattle.rules_file.specs.Rules.{gateways_in, issues_in, participants_in}
-use Rattle.rules_file.specs.declared.issue.IssueRules.{IssueRules}
+use Rattle.node_rules.specs.Nodes.{IsCrashOf}
+use Rattle.rules_file.specs.Rules.{gateways_in}
 use Rattle.rules_file.specs.declared.rules.Rules.{Rules}
-use Rattle.script_file.specs.Script.{IsBefore, is_event}
 use Rattle.script_file.specs.declared.script.GatewayScriptLine.{GatewayScriptLine}
-use Rattle.issue_machine.specs.History.{FollowOn, Follows, IsHistory, entries_by, is_by, nodes_after}
-use Rattle.issue_journal.specs.Issue.{Fixed, IsIssueNow, IssueNow}
+use Rattle.issue_machine.specs.History.{FollowOn, IsHistory, entries_by}
+use Rattle.issue_journal.specs.Issue.{Fixed, IssueNow}
 use Rattle.issue_journal.specs.Laws.{LossesStayFew, is_rejoin, rejoins}
-use Rattle.issue_journal.specs.Turned.{HasNoNode, HasPlace, TurnDone, WasHalted, entry_behind, halt_of, losses_after, with_turn}
+use Rattle.issue_journal.specs.Turned.{HasNoNode, TurnDone, WasHalted, entry_behind, halt_of, with_turn}
 use Rattle.turn_writer.specs.Losses.{losses_from}
 use Rattle.turn_writer.specs.Writing.{asks, turn_entries}
 use Rattle.run_law.specs.Replayed.{AreInFileOrder, Call, call_at_halt, call_in, call_of, calls_for, calls_in}
 use Rattle.run_law.specs.Run.{event_in}
 use Rattle.script_run.specs.Entering.{WasEntered}
-use Rattle.script_run.specs.Running.{HasPlaceFor, IsAfter, IsOpenedFor, capacity_for, count_for}
+use Rattle.script_run.specs.Running.{HasPlaceFor, IsAfter, IsOpenedFor, count_for}
 use Rattle.script_run.proofs.CountLemmas.{calls-counted}
 
 -- ---- the calls of a turn

@@ -6,4 +6,5 @@ pub mod LineLemmas
 pub mod OpeningLemmas
 pub mod ReadLemmas
 pub mod ComingLemmas
+pub mod PrintLemmas
 pub mod RunningLemmas

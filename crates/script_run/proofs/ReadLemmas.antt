@@ -1,18 +1,15 @@
 -- Reads of boards while a script is replayed.
-use Rattle.std.proofs.Common.{◌≡◌, ◌⊎◌, inl, inr, ℕ, zero, suc, ◌+◌, ◌==◌, ◌<◌, ◌≤◌, Bool, true, false, cond, ltb, List, [], ◌∷◌, ◌++◌, length, map, min, take, drop, All, Option, Some, None, refl, sym, ap, subst, ◌∙◌, arith, append-nil, append_assoc, length-append}
+use Rattle.std.proofs.Common.{◌≡◌, ◌⊎◌, inl, inr, ℕ, zero, suc, ◌+◌, ◌≤◌, Bool, true, false, cond, ltb, List, [], ◌∷◌, ◌++◌, length, min, take, Option, Some, None, refl, sym, ap, subst, ◌∙◌, arith, append-nil, length-append}
 use Rattle.std.proofs.lemmas.Bool.Decides.{nat_tests}
-use Rattle.std.specs.List.{AllByRecursion, AllZip, cons_option, filter, filter_map, slice_get}
+use Rattle.std.specs.List.{AllByRecursion, cons_option, slice_get}
 use Rattle.std.specs.Option.{IfSome}
 use Rattle.std.proofs.lemmas.List.{length_push}
-use Rattle.std.proofs.lemmas.List.Elements.{filter-append, filter_map-append}
+use Rattle.std.proofs.lemmas.List.Elements.{filter-append}
 use Rattle.mkt_base.specs.declared.event.Entry.{Entry}
 use Rattle.mkt_base.specs.declared.event.Event.{Event}
 use Rattle.mkt_base.specs.declared.event.Reply.{Reply}
 use Rattle.mkt_base.specs.declared.journal.Halt.{Halt}
-use Rattle.mkt_base.specs.declared.quote.Board.{Board}
 use Rattle.mkt_base.specs.declared.script.ShowLine.{ShowLine}
-use Rattle.mkt_base.specs.declared.script.Act.TheVariants.{Do, Show}
-use Rattle.rules_file.specs.declared.rules.Rules.{Rules}
 use Rattle.script_file.specs.Script.{IsBefore}
 use Rattle.script_file.specs.declared.script.GatewayScriptLine.{GatewayScriptLine}
 use Rattle.issue_book.specs.State.{start}
@@ -20,16 +17,13 @@ use Rattle.issue_machine.specs.History.{entries_by}
 use Rattle.issue_machine.specs.Step.{board_of, state_after}
 use Rattle.issue_machine.proofs.HistoryLemmas.{entries-over}
 use Rattle.issue_journal.specs.Issue.{Fixed, IssueNow, state_of}
-use Rattle.issue_journal.specs.Turned.{HasNoNode, TurnDone, WasHalted, entry_behind, with_turn}
-use Rattle.turn_writer.specs.Losses.{losses_from}
+use Rattle.issue_journal.specs.Turned.{HasNoNode, TurnDone, entry_behind}
 use Rattle.turn_writer.specs.Writing.{turn_entries}
 use Rattle.run_law.specs.Replayed.{AreInFileOrder, Call, call_at_halt, call_in, calls_for, calls_in, lines_before}
-use Rattle.run_law.specs.Run.{is_show}
-use Rattle.run_law.proofs.Shows.{calls-before, take-and-drop}
-use Rattle.run_law.proofs.RunLemmas.{more-calls}
+use Rattle.run_law.proofs.Shows.{calls-before}
 use Rattle.script_run.specs.Entering.{WasEntered}
-use Rattle.script_run.specs.Running.{IsAfter, IsReadNow, read_of}
-use Rattle.script_run.proofs.EnteringLemmas.{calls-show, calls-turned}
+use Rattle.script_run.specs.Running.{IsReadNow, read_of}
+use Rattle.script_run.proofs.EnteringLemmas.{calls-turned}
 
 -- ---- the lines before a line
 

@@ -1,39 +1,32 @@
 -- A script that is replayed, from its begin over each line to its end.
-use Rattle.std.proofs.Common.{◌≡◌, ◌⊎◌, inl, inr, ℕ, zero, suc, ◌+◌, ◌==◌, ◌<◌, ◌≤◌, Bool, true, false, cond, not, List, [], ◌∷◌, ◌++◌, length, get_or, map, take, drop, All, Option, Some, None, refl, sym, ap, subst, ◌∙◌, arith, append-nil}
-use Rattle.std.specs.List.{AllByRecursion, AllPairs, AllZip, count_by, filter, range_with_len, slice_get}
-use Rattle.std.specs.Option.{IfSome}
+use Rattle.std.proofs.Common.{◌≡◌, ℕ, ◌+◌, ◌<◌, ◌≤◌, Bool, true, cond, List, [], ◌∷◌, ◌++◌, length, get_or, map, take, drop, All, Some, None, refl, sym, ap, subst, ◌∙◌, arith}
+use Rattle.std.specs.List.{AllByRecursion, AllZip, filter, slice_get}
 use Rattle.std.proofs.lemmas.List.{drop_more, length-map, take_all, take_more}
-use Rattle.std.proofs.lemmas.List.Elements.{All-from_recursion, recursion_from_All}
+use Rattle.std.proofs.lemmas.List.Elements.{All-from_recursion}
 use Rattle.std.proofs.lemmas.List.FromFn.{get_or-map-range_with_len}
 use Rattle.std.proofs.lemmas.List.Sums.{length-filter, sum_by-drop_more, sum_by-take-drop}
 use Rattle.std.proofs.lemmas.Option.{slice_get_within}
 use Rattle.mkt_base.specs.declared.event.Entry.{Entry}
-use Rattle.mkt_base.specs.declared.event.Event.{Event}
-use Rattle.mkt_base.specs.declared.event.Event.TheVariants as events
-use Rattle.mkt_base.specs.declared.journal.Halt.{Halt}
 use Rattle.mkt_base.specs.declared.script.Act.{Act}
 use Rattle.mkt_base.specs.declared.script.Act.TheVariants.{Do, Show}
 use Rattle.mkt_base.specs.declared.script.ShowLine.{ShowLine}
-use Rattle.mkt_base.specs.declared.units.Caller.{Caller}
 use Rattle.book_law.proofs.Pairs.{Pairs, pairs-from_AllPairs}
-use Rattle.rules_file.specs.Rules.{gateways_in, issues_in, participants_in}
+use Rattle.rules_file.specs.Rules.{gateways_in, issues_in}
 use Rattle.rules_file.specs.declared.issue.IssueRules.{IssueRules}
 use Rattle.rules_file.specs.declared.rules.Rules.{Rules}
-use Rattle.script_file.specs.Script.{IsActOf, IsBefore, IsEventOf as IsScriptEvent, IsScript, is_event}
+use Rattle.script_file.specs.Script.{IsActOf, IsBefore, IsScript, is_event}
 use Rattle.script_file.specs.declared.script.GatewayScriptLine.{GatewayScriptLine}
 use Rattle.script_file.specs.declared.script.Script.{Script}
 use Rattle.issue_book.specs.IssueView.{terms_of}
 use Rattle.issue_book.specs.State.{Terms}
-use Rattle.issue_machine.specs.History.{IsHistory, entries_by}
-use Rattle.issue_machine.specs.Journal.{IsEventOf}
 use Rattle.issue_machine.specs.Step.{board_of, state_after}
-use Rattle.issue_journal.specs.Issue.{IsHalted, IsIssueNow, IssueNow, Stands}
+use Rattle.issue_journal.specs.Issue.{IssueNow}
 use Rattle.issue_journal.specs.Laws.{LossesStayFew}
-use Rattle.run_report.specs.Report.{IsEnded, IsHaltOf, IsNamed, IsRun, IsShown, IsShownBefore, Run}
+use Rattle.run_report.specs.Report.{IsEnded, IsRun, IsShown, Run}
 use Rattle.run_report.specs.declared.ended.EndedIssue.{EndedIssue}
-use Rattle.run_law.specs.Replayed.{AreInFileOrder, IsReplayOf, IsShowAt, calls_for, calls_in}
+use Rattle.run_law.specs.Replayed.{AreInFileOrder, IsReplayOf, IsShowAt}
 use Rattle.run_law.specs.Run.{is_show}
-use Rattle.run_law.proofs.RunLemmas.{pairs-ahead, pairs-all}
+use Rattle.run_law.proofs.RunLemmas.{pairs-ahead}
 use Rattle.run_law.proofs.Shows.{take-and-drop}
 use Rattle.script_run.specs.Running.{AllAfter, AllReadNow, EachFrom, HasCome, IsAfter, IsFresh, IsLabelled, IsOpenedFor, IsReadNow, MayDo, WasDone, WasRead, count_for, counts_for, ended_as, run_of}
 use Rattle.script_run.proofs.ComingLemmas.{come-next}
@@ -41,6 +34,7 @@ use Rattle.script_run.proofs.CountLemmas.{fewer-before}
 use Rattle.script_run.proofs.EachLemmas.{each-get, each-map, get-there, zip-length, zip-map}
 use Rattle.script_run.proofs.LineLemmas.{one-there}
 use Rattle.script_run.proofs.EnteringLemmas.{has-place}
+use Rattle.script_run.proofs.PrintLemmas.{IsFor, IsOfRules, ended-now, event-sound, found-ended, reads-known, reads-named, reads-rise}
 
 -- ---- the begin
 
@@ -65,14 +59,6 @@ come-begins rules made counts issues shows counted each fresh none = record {
         }
 
 -- ---- a line
-
-event-sound : (rules : Rules) (participants : ℕ) (event : Event) → participants ≡ length (participants_in rules) → IsScriptEvent rules event → IsEventOf participants event
-event-sound rules participants (events.Order participant side kind qty) same is = omega (arith, same, is)
-event-sound rules participants (events.Change participant target kind qty) same is = omega (arith, same, is)
-event-sound rules participants (events.Cancel participant target) same is = omega (arith, same, is)
-event-sound rules participants (events.Clock at) same is = is
-event-sound rules participants (events.Crash node) same is = is
-event-sound rules participants (events.Rejoin node) same is = is
 
 module _ (rules : Rules) (script : Script) (sound : IsScript rules script) (k : ℕ) (of : GatewayScriptLine) (below : k < length script.lines) (at : of ≡ get_or script.lines k of) where
   abbrev made : List GatewayScriptLine
@@ -135,15 +121,6 @@ labelled-all rules made done issues after =
     each-map (IsAfter rules made done) IsLabelled 0 issues
     (λ i k x at is h. record { issue_now = h.opened.issue_now; place = h.opened.place; first = h.opened.first; second = h.opened.second; third = h.opened.third }) after
 
--- an issue that ended, by its number
-found-ended : (issues : List IssueNow) (i : ℕ) (e : EndedIssue) → slice_get (map ended_as issues) i ≡ Some e → (x : IssueNow) × (slice_get issues i ≡ Some x) × (e ≡ ended_as x)
-found-ended [] i e is = absurd (cc)
-found-ended (x ∷ issues) zero e is = (x, refl, same e (ended_as x) is)
-  where
-    same : (a b : EndedIssue) → Some b ≡ Some a → a ≡ b
-    same a b h = cc
-found-ended (x ∷ issues) (suc i) e is = found-ended issues i e is
-
 module _ (rules : Rules) (script : Script) (sound : IsScript rules script) (issues : List IssueNow) (shows : List ShowLine) (come : HasCome rules script.lines script.lines issues shows) where
   abbrev lines : List GatewayScriptLine
   lines = script.lines
@@ -152,23 +129,7 @@ module _ (rules : Rules) (script : Script) (sound : IsScript rules script) (issu
   after-at i x is = each-get (IsAfter rules lines lines) 0 i i issues x come.after is (omega arith)
 
   ended-is : (i : ℕ) (x : IssueNow) → IsAfter rules lines lines i x → IsEnded rules (ended_as x)
-  ended-is i x after =
-      let now = after.opened.issue_now in
-      record {
-        history = subst (λ (n : ℕ). IsHistory n x.entries) after.opened.participants now.history;
-        few = omega (arith, now.within, now.small);
-        callers = after.opened.callers;
-        halt = by x.halt now.stands after.opened.halter;
-      }
-    where
-      by : (h : Option Halt) → Stands x h → IfSome h (λ g. g.caller.0 ≤ length (gateways_in rules)) → IfSome h (IsHaltOf rules x.entries)
-      by None stands known = tt
-      by (Some h) halted known = record {
-        caller = halted.caller.0;
-        gateway = known;
-        own = halted.own;
-        event = subst (λ (n : ℕ). IsEventOf n h.event) after.opened.participants halted.event;
-      }
+  ended-is i x after = ended-now rules x after.opened.participants after.opened.issue_now after.opened.callers after.opened.halter
 
   all-ended : (n : ℕ) (xs : List IssueNow) → EachFrom (IsAfter rules lines lines) n xs → AllByRecursion (IsEnded rules) (map ended_as xs)
   all-ended n [] each = tt
@@ -179,49 +140,15 @@ module _ (rules : Rules) (script : Script) (sound : IsScript rules script) (issu
   abbrev Read : GatewayScriptLine → ShowLine → Type 0
   Read l s = (i : IssueNow) → slice_get issues l.line.issue ≡ Some i → IsReadNow lines i l s
 
-  abbrev Known : GatewayScriptLine → Type 0
-  Known l = (l.line.issue < length (issues_in rules)) × (1 ≤ l.gateway.0) × (l.gateway.0 ≤ length (gateways_in rules))
-
-  known-all : AllByRecursion Known lines
-  known-all = both lines (recursion_from_All _ lines sound.issues) (recursion_from_All _ lines sound.gateways)
-    where
-      both : (ls : List GatewayScriptLine) → AllByRecursion (λ (l : GatewayScriptLine). l.line.issue < length (issues_in rules)) ls
-          → AllByRecursion (λ (l : GatewayScriptLine). (1 ≤ l.gateway.0) × (l.gateway.0 ≤ length (gateways_in rules))) ls → AllByRecursion Known ls
-      both [] p q = tt
-      both (l ∷ ls) p q = ((p.0, q.0.0, q.0.1), both ls p.1 q.1)
-
-  filtered : (P : GatewayScriptLine → Type 0) (ls : List GatewayScriptLine) → AllByRecursion P ls → AllByRecursion P (filter is_show ls)
-  filtered P [] all = tt
-  filtered P (l ∷ ls) all = by (is_show l) (filtered P ls all.1)
-    where
-      by : (b : Bool) → AllByRecursion P (filter is_show ls) → AllByRecursion P (cond b (l ∷ filter is_show ls) (filter is_show ls))
-      by true rest = (all.0, rest)
-      by false rest = rest
-
-  read-there : (l : GatewayScriptLine) (s : ShowLine) → Known l → Read l s → (i : IssueNow) × (slice_get issues l.line.issue ≡ Some i) × IsReadNow lines i l s
+  read-there : (l : GatewayScriptLine) (s : ShowLine) → IsOfRules rules l → Read l s → (i : IssueNow) × (slice_get issues l.line.issue ≡ Some i) × IsReadNow lines i l s
   read-there l s known read =
       let there = get-there issues l.line.issue (omega (arith, known.0, come.each)) in
       (there.0, there.1, read there.0 there.1)
 
-  named-all : (ls : List GatewayScriptLine) (ss : List ShowLine) → AllByRecursion Known ls → AllZip Read ls ss → AllByRecursion (IsNamed rules) ss
-  named-all [] [] known all = tt
-  named-all [] (s ∷ ss) known all = absurd all
-  named-all (l ∷ ls) [] known all = absurd all
-  named-all (l ∷ ls) (s ∷ ss) known all =
-      let read = (read-there l s known.0 all.0).2 in
-      let gateway = ap (λ (c : Caller). c.0) read.gateway in (
-        record {
-          issue = omega (arith, read.issue, known.0.0);
-          caller = omega (arith, gateway, known.0.1);
-          gateway = omega (arith, gateway, known.0.2);
-        },
-        named-all ls ss known.1 all.1,
-      )
-
   abbrev ShownAs : ShowLine → Type 0
   ShownAs s = (r : IssueRules) (ended : EndedIssue) → slice_get (issues_in rules) s.issue ≡ Some r → slice_get (map ended_as issues) s.issue ≡ Some ended → IsShown rules r ended.journal s.board
 
-  shown-all : (ls : List GatewayScriptLine) (ss : List ShowLine) → AllByRecursion Known ls → AllZip Read ls ss → AllByRecursion ShownAs ss
+  shown-all : (ls : List GatewayScriptLine) (ss : List ShowLine) → AllByRecursion (IsOfRules rules) ls → AllZip Read ls ss → AllByRecursion ShownAs ss
   shown-all [] [] known all = tt
   shown-all [] (s ∷ ss) known all = absurd all
   shown-all (l ∷ ls) [] known all = absurd all
@@ -239,53 +166,26 @@ module _ (rules : Rules) (script : Script) (sound : IsScript rules script) (issu
             board_is = read.board_is ∙ ap (λ (t : Terms). board_of t (state_after t (take s.board.length found.0.entries))) terms;
           })
 
-  rise-all : (ls : List GatewayScriptLine) (ss : List ShowLine) → AllByRecursion Known ls → AllZip Read ls ss → Pairs IsBefore ls → Pairs IsShownBefore ss
-  rise-all [] [] known all rise = tt
-  rise-all [] (s ∷ ss) known all rise = absurd all
-  rise-all (l ∷ ls) [] known all rise = absurd all
-  rise-all (l ∷ ls) (s ∷ ss) known all rise = (first ls ss known.1 all.1 rise.0, rise-all ls ss known.1 all.1 rise.1)
-    where
-      own : IsReadNow lines (read-there l s known.0 all.0).0 l s
-      own = (read-there l s known.0 all.0).2
-
-      first : (ms : List GatewayScriptLine) (us : List ShowLine) → AllByRecursion Known ms → AllZip Read ms us → AllByRecursion (IsBefore l) ms → AllByRecursion (IsShownBefore s) us
-      first [] [] k a r = tt
-      first [] (u ∷ us) k a r = absurd a
-      first (m ∷ ms) [] k a r = absurd a
-      first (m ∷ ms) (u ∷ us) k a r = (by r.0, first ms us k.1 a.1 r.1)
-        where
-          its : IsReadNow lines (read-there m u k.0 a.0).0 m u
-          its = (read-there m u k.0 a.0).2
-
-          by : IsBefore l m → IsShownBefore s u
-          by (inl less) = inl (omega (arith, less, own.line, its.line))
-          by (inr same) = inr (own.line ∙ same.0 ∙ sym its.line, omega (arith, same.1, own.issue, its.issue))
-
-  pairs-filtered : (ls : List GatewayScriptLine) → Pairs IsBefore ls → Pairs IsBefore (filter is_show ls)
-  pairs-filtered [] is = tt
-  pairs-filtered (l ∷ ls) is = by (is_show l) (filtered (IsBefore l) ls is.0) (pairs-filtered ls is.1)
-    where
-      by : (b : Bool) → AllByRecursion (IsBefore l) (filter is_show ls) → Pairs IsBefore (filter is_show ls) → Pairs IsBefore (cond b (l ∷ filter is_show ls) (filter is_show ls))
-      by true first rest = (first, rest)
-      by false first rest = rest
-
   abbrev run : Run
   run = run_of (map ended_as issues) shows
 
-  known-shows : AllByRecursion Known (filter is_show lines)
-  known-shows = filtered Known lines known-all
+  known-shows : AllByRecursion (IsOfRules rules) (filter is_show lines)
+  known-shows = reads-known rules script sound
+
+  reads-for : AllZip IsFor (filter is_show lines) shows
+  reads-for = zip-map Read IsFor (filter is_show lines) shows (IsOfRules rules) (λ l s known read. let its = (read-there l s known read).2 in record { line = its.line; gateway = its.gateway; issue = its.issue }) known-shows come.reads
 
   pub printable : IsRun rules run
   printable = record {
     each = length-map issues ended_as ∙ come.each;
     ended = All-from_recursion (IsEnded rules) (map ended_as issues) (all-ended 0 issues come.after);
-    named = All-from_recursion (IsNamed rules) shows (named-all (filter is_show lines) shows known-shows come.reads);
+    named = reads-named rules script shows sound reads-for;
     shown = All-from_recursion ShownAs shows (shown-all (filter is_show lines) shows known-shows come.reads);
-    rise = pairs-all IsShownBefore shows (rise-all (filter is_show lines) shows known-shows come.reads (pairs-filtered lines (pairs-from_AllPairs IsBefore lines sound.rise)));
+    rise = reads-rise rules script shows sound reads-for;
   }
 
   pub replayed : IsReplayOf script run
-  replayed = record { issues = order; shows = zip-map Read ShownAt (filter is_show lines) shows Known (λ l s known read. one l s read) known-shows come.reads }
+  replayed = record { issues = order; shows = zip-map Read ShownAt (filter is_show lines) shows (IsOfRules rules) (λ l s known read. one l s read) known-shows come.reads }
     where
       order : (i : ℕ) (ended : EndedIssue) → slice_get (map ended_as issues) i ≡ Some ended → AreInFileOrder i lines ended.journal ended.halt
       order i ended at =

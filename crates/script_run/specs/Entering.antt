@@ -1,6 +1,5 @@
 -- What a line of a script did to its issue, and how an issue ended.
-use Rattle.std.specs.Prelude.{◌≡◌, ◌⊎◌, Option, List}
-use Rattle.mkt_base.specs.declared.event.Entry.{Entry}
+use Rattle.std.specs.Prelude.{◌≡◌, ◌⊎◌}
 use Rattle.mkt_base.specs.declared.event.Event.{Event}
 use Rattle.mkt_base.specs.declared.event.Reply.{Reply}
 use Rattle.mkt_base.specs.declared.units.Caller.{Caller}

@@ -1,5 +1,5 @@
 -- The issues of a script while it is replayed, line by line.
-use Rattle.std.specs.Prelude.{◌≡◌, ℕ, ◌+◌, ◌*◌, ◌==◌, ◌<◌, ◌≤◌, Bool, ◌&&◌, List, [], ◌∷◌, ◌++◌, length, map, take, filter, min, count_by, Option, Some, None, IfSome, All, AllPairs, slice_get, slice_set, slice_index_or}
+use Rattle.std.specs.Prelude.{◌≡◌, ℕ, ◌+◌, ◌*◌, ◌==◌, ◌<◌, ◌≤◌, Bool, ◌&&◌, List, [], ◌∷◌, ◌++◌, length, map, take, filter, min, count_by, Some, None, IfSome, All, slice_get, slice_set, slice_index_or}
 use Rattle.std.specs.List.{AllZip, range_with_len}
 use Rattle.mkt_base.specs.declared.event.Entry.{Entry}
 use Rattle.mkt_base.specs.declared.event.Event.{Event}

@@ -29,12 +29,9 @@ fn close_issue<R: Rack>(rack: &mut R, number: u16, issue: Issue<R::Node>) -> End
     }
 }
 
-// Closes all issues, and gives their nodes back. The list of their ends is empty and has room for them.
-pub(crate) fn close_all<R: Rack>(
-    rack: &mut R,
-    issues: Vec<Issue<R::Node>>,
-    ended: &mut Vec<EndedIssue>,
-)
+/// Closes issues 0 and on, 64 at most, in the order of their numbers, and gives their three nodes back, which were taken from the rack. The
+/// list of their ends is empty and has room for them.
+pub fn close_all<R: Rack>(rack: &mut R, issues: Vec<Issue<R::Node>>, ended: &mut Vec<EndedIssue>)
     requires labelled { EachFrom IsLabelled 0 issues.items }
     requires out { AreOutFrom (R.is_out rack.old) 0 (length issues.items) }
     requires few { length issues.items ≤ 64 }

@@ -9,8 +9,8 @@ use mkt_base::Act;
 use script_file::GatewayScriptLine;
 use std::alloc::{AllocError, Global};
 
-// How many events the lines enter in each issue.
-pub(crate) fn count_events(
+/// How many events the lines enter in each of so many issues. No memory is the one fault.
+pub fn count_events(
     alloc: Global,
     lines: &[GatewayScriptLine],
     issues: usize,
@@ -36,8 +36,8 @@ fn is_event(act: &Act) -> bool
     }
 }
 
-// How many lines read a board.
-pub(crate) fn count_shows(lines: &[GatewayScriptLine]) -> usize
+/// How many lines read a board.
+pub fn count_shows(lines: &[GatewayScriptLine]) -> usize
     ensures { result ≡ length (filter is_show lines.now) }
 {
     let mut shows = 0;

@@ -7,5 +7,8 @@ mod fault;
 mod opening;
 mod replay;
 
+pub use closing::close_all;
+pub use counting::{count_events, count_shows};
 pub use fault::RunFault;
+pub use opening::open_all;
 pub use replay::{Replayed, replay_script};

@@ -74,8 +74,9 @@ fn open_issue<R: Rack>(
     Ok(Issue::begin(room, first, second, third))
 }
 
-// Opens all issues of the rules, each for its count of events.
-pub(crate) fn open_all<R: Rack>(
+/// Opens all issues of the rules, each for its count of events, at most 500,000, over three nodes of the rack, of which none is out. `Memory`
+/// comes only where there is none, and nodes that were taken by then are not given back.
+pub fn open_all<R: Rack>(
     alloc: Global,
     rules: &Rules,
     rack: &mut R,

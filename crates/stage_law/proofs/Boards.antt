@@ -51,7 +51,7 @@ filter-both {X} p q (x ∷ xs) = by (p x) (q x) refl (filter-both p q xs)
     by false b is rest = rest
 
 -- the lines of a gateway's deeds in an issue are its lines there
-lines-here : (issue g : ℕ) (made : List GatewayScriptLine) (xs : List Deed) → lines_done xs ≡ bare (lines_by g made) → lines_done (deeds_at issue xs) ≡ bare (lines_at issue g made)
+pub lines-here : (issue g : ℕ) (made : List GatewayScriptLine) (xs : List Deed) → lines_done xs ≡ bare (lines_by g made) → lines_done (deeds_at issue xs) ≡ bare (lines_at issue g made)
 lines-here issue g made xs lines =
     filter-mapped (λ (x : Deed). x.line) (λ (l : ScriptLine). l.issue == issue) xs
     ∙ ap (filter (λ (l : ScriptLine). l.issue == issue)) lines

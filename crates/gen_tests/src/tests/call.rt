@@ -2,7 +2,7 @@
 ghost use Rattle.std.specs.Prelude.{◌≡◌, map, string_bytes, IfOk};
 ghost use Rattle.market_top.specs.Command.{file_words};
 
-use market_top::{file_words, run_plain};
+use market_top::{file_words, is_run, run_plain};
 use memory_node::{MemRack, NodeFails};
 use mkt_base::NodeNo;
 use mkt_io::{MemShelf, MemSink, Shelf};
@@ -113,6 +113,9 @@ fn status_of(
     requires { ⟦<MemShelf as Shelf>⟧.names shelf.old ≡ file_words (map string_bytes words.now) }
 {
     let mut rack = MemRack::make(alloc, fails).map_err(|_| "no rack")?;
+    if is_run(words) {
+        return Err("no words for this call")?;
+    }
     Ok(run_plain(alloc, words, shelf, out, err, &mut rack).0)
 }
 

@@ -1,7 +1,9 @@
 // The command `check` over rules files in memory: what it prints of good ones, and the first fault of others.
 use super::program::{Answer, Fails, NONE, USAGE, answer_of};
 use std::alloc::{AllocError, Global};
+use std::sync::Wait;
 use std::test::Fail;
+use std::thread::Threads;
 
 const SAMPLE: &str =
     "special_ms = 180000\nsequential_ms = 60000\nticks = [[30000, 10], [1000000000, 50]]\nlimits = [[15000, 3000], [20000, 4000], [30000, 5000], [1000000001, 7000]]\nranges = [[15000, 300], [20000, 400], [30000, 500], [1000000001, 700]]\nsessions = [[\"08:00:00\", \"09:00:00\", \"11:30:00\"], [\"12:05:00\", \"12:30:00\", \"15:00:00\"]]\nrounds = [\"1u\", \"1/3\", \"1/2\", \"all\"]\nparticipants = [\"p1\", \"p2\", \"p3\", \"p4\", \"p5\", \"p6\", \"p7\", \"p8\"]\ngateways = [\"g1\", \"g2\", \"g3\", \"g4\"]\n\n[[issue]]\ncode = \"AAAA\"\nbase = 20000\nunit = 100\n\n[[issue]]\ncode = \"BBBB\"\nbase = 12000\nunit = 100\n";
@@ -20,8 +22,8 @@ const TABLES: &str =
 const ISSUES: &str =
     "issue AAAA base 20000 unit 100 low 15000 high 25000 prices 1001\nissue BBBB base 12000 unit 100 low 9000 high 15000 prices 601\n";
 
-fn check(alloc: Global, file: &[u8]) -> Result<Answer, Fail> {
-    answer_of(alloc, &["check", "a"], file, NONE)
+fn check<T: Threads + Wait + Sync>(rt: &T, alloc: Global, file: &[u8]) -> Result<Answer, Fail> {
+    answer_of(rt, alloc, &["check", "a"], file, NONE)
 }
 
 fn joined(alloc: Global, parts: &[&str]) -> Result<String, AllocError> {
@@ -220,10 +222,14 @@ fn changed(alloc: Global, line: &str) -> Result<(String, String), Fail> {
 }
 
 // What the program answers for the file of a line, and the line of the fault that it is to tell.
-fn answer_of_line(alloc: Global, line: &str) -> Result<(Answer, String), Fail> {
+fn answer_of_line<T: Threads + Wait + Sync>(
+    rt: &T,
+    alloc: Global,
+    line: &str,
+) -> Result<(Answer, String), Fail> {
     let (file, want) = changed(alloc, line)?;
     let told = joined(alloc, &["rules ", want.as_str(), "\n"])?;
-    Ok((check(alloc, file.as_bytes())?, told))
+    Ok((check(rt, alloc, file.as_bytes())?, told))
 }
 
 #[test]
@@ -232,7 +238,7 @@ fn faults(rt: HostRuntime) -> Result<(), Fail> {
         if line.is_empty() || line.starts_with("#") {
             continue;
         }
-        let (answer, told) = answer_of_line(rt.alloc(), line)?;
+        let (answer, told) = answer_of_line(&rt, rt.alloc(), line)?;
         assert_eq!(rt; answer.err.as_str(), told.as_str(), "at {line}");
         assert_eq!(rt; answer.out.as_str(), "", "at {line}");
         assert_eq!(rt; answer.status, 1, "at {line}");
@@ -254,7 +260,7 @@ fn faults_of_the_issues(rt: HostRuntime) -> Result<(), Fail> {
     ];
     for (issues, want) in cases {
         let file = joined(rt.alloc(), &[HEAD, issues])?;
-        let answer = check(rt.alloc(), file.as_bytes())?;
+        let answer = check(&rt, rt.alloc(), file.as_bytes())?;
         assert_eq!(rt; answer.err.as_str(), want);
         assert_eq!(rt; answer.status, 1);
     }
@@ -262,11 +268,16 @@ fn faults_of_the_issues(rt: HostRuntime) -> Result<(), Fail> {
 }
 
 // The answer for a list with so many rows more at its front, each of them wrong, which is told later than their number.
-fn answer_of_rows(alloc: Global, key: &str, times: u32) -> Result<Answer, Fail> {
+fn answer_of_rows<T: Threads + Wait + Sync>(
+    rt: &T,
+    alloc: Global,
+    key: &str,
+    times: u32,
+) -> Result<Answer, Fail> {
     let rows = repeated(alloc, "7, ", times)?;
     let more = joined(alloc, &[key, rows.as_str()])?;
     let file = SAMPLE.replace(alloc, key, more.as_str())?;
-    check(alloc, file.as_bytes())
+    check(rt, alloc, file.as_bytes())
 }
 
 #[test]
@@ -283,7 +294,7 @@ fn limits_of_the_lists(rt: HostRuntime) -> Result<(), Fail> {
         ("gateways = [", 13, "rules 9 gateways 17\n"),
     ];
     for (key, times, want) in cases {
-        let answer = answer_of_rows(rt.alloc(), key, times)?;
+        let answer = answer_of_rows(&rt, rt.alloc(), key, times)?;
         assert_eq!(rt; answer.err.as_str(), want);
         assert_eq!(rt; answer.status, 1);
     }
@@ -317,7 +328,7 @@ fn good_files(rt: HostRuntime) -> Result<(), Fail> {
         (one.as_str(), of_one.as_str()),
     ];
     for (file, want) in cases {
-        let answer = check(alloc, file.as_bytes())?;
+        let answer = check(&rt, alloc, file.as_bytes())?;
         assert_eq!(rt; answer.out.as_str(), want);
         assert_eq!(rt; answer.err.as_str(), "");
         assert_eq!(rt; answer.status, 0);
@@ -343,7 +354,7 @@ fn largest_file(rt: HostRuntime) -> Result<(), Fail> {
     }
     want.push_str(TABLES)?;
     let more = joined(alloc, &[file.as_str(), "[[issue]]\n"])?;
-    let answer = check(alloc, more.as_bytes())?;
+    let answer = check(&rt, alloc, more.as_bytes())?;
     assert_eq!(rt; answer.err.as_str(), "rules 9 issue 65\n");
     file.push_str("#")?;
     let room = 1_048_576_usize.saturating_sub(file.len());
@@ -351,14 +362,14 @@ fn largest_file(rt: HostRuntime) -> Result<(), Fail> {
         alloc,
         &[file.as_str(), repeated(alloc, "x", room as u32)?.as_str()],
     )?;
-    let answer = check(alloc, filled.as_bytes())?;
+    let answer = check(&rt, alloc, filled.as_bytes())?;
     assert_eq!(rt; answer.out.as_str(), want.as_str());
     assert_eq!(rt; answer.status, 0);
     let over = joined(alloc, &[filled.as_str(), "x"])?;
-    let answer = check(alloc, over.as_bytes())?;
+    let answer = check(&rt, alloc, over.as_bytes())?;
     assert_eq!(rt; answer.err.as_str(), "rules 9 bytes 1048577\n");
     assert_eq!(rt; answer.status, 1);
-    let answer = check(alloc, b"special_ms = \"\xff\"\n")?;
+    let answer = check(&rt, alloc, b"special_ms = \"\xff\"\n")?;
     assert_eq!(rt; answer.err.as_str(), "rules 1\n");
     Ok(())
 }
@@ -385,7 +396,7 @@ fn words_and_faults(rt: HostRuntime) -> Result<(), Fail> {
         (&["check", "a"], b"", NONE, 1, "rules 2 special_ms\n"),
     ];
     for (words, file, fails, status, want) in cases {
-        let answer = answer_of(rt.alloc(), words, file, fails)?;
+        let answer = answer_of(&rt, rt.alloc(), words, file, fails)?;
         assert_eq!(rt; answer.status, status);
         assert_eq!(rt; answer.out.as_str(), "");
         assert_eq!(rt; answer.err.as_str(), want);

@@ -2,11 +2,13 @@
 ghost use Rattle.std.specs.Prelude.{◌≡◌, map, string_bytes, IfOk};
 ghost use Rattle.market_top.specs.Command.{file_words};
 
-use market_top::{file_words, run_market, run_plain};
+use market_top::{file_words, is_run, run_market, run_plain};
 use memory_node::MemRack;
-use mkt_io::{MemShelf, MemSink, Shelf};
+use mkt_io::{MemShelf, MemSink, NoGate, Shelf};
 use std::alloc::{AllocError, Global};
+use std::sync::Wait;
 use std::test::Fail;
+use std::thread::Threads;
 
 pub(super) const USAGE: &str =
     "usage: auction FILE | check RULES | replay RULES SCRIPT | replay --gen NUMBER ORDERS RULES | run RULES SCRIPT | audit RULES REPORT | gen NUMBER ORDERS\n";
@@ -22,7 +24,7 @@ pub(super) struct Answer {
     pub(super) err: String,
 }
 
-/// Which calls fail: of the shelf, of standard output and of standard error; and which of the two calls is made.
+/// Which calls fail: of the shelf, of standard output and of standard error; and whether the call is made that waits for nobody.
 #[derive(Clone, Copy)]
 pub(super) struct Fails<'a> {
     pub(super) by_plain: bool,
@@ -57,7 +59,8 @@ fn copies(alloc: Global, words: &[String]) -> Result<Vec<String>, AllocError>
 }
 
 // The status of a call, over a rack of its own.
-fn status_of(
+fn status_of<T: Threads + Wait + Sync>(
+    rt: &T,
     alloc: Global,
     words: &[String],
     shelf: &mut MemShelf,
@@ -68,16 +71,17 @@ fn status_of(
     requires { ⟦<MemShelf as Shelf>⟧.names shelf.old ≡ file_words (map string_bytes words.now) }
 {
     let mut rack = MemRack::make(alloc, Vec::new(alloc)).map_err(|_| "no rack")?;
-    let status = if by_plain {
+    let status = if by_plain && !is_run(words) {
         run_plain(alloc, words, shelf, out, err, &mut rack)
     } else {
-        run_market(alloc, words, shelf, out, err, &mut rack)
+        run_market(rt, alloc, words, shelf, out, err, &mut rack, &NoGate)
     };
     Ok(status.0)
 }
 
 // Runs the words over a shelf with the one file `a`.
-pub(super) fn answer_of(
+pub(super) fn answer_of<T: Threads + Wait + Sync>(
+    rt: &T,
     alloc: Global,
     words: &[&str],
     file: &[u8],
@@ -91,6 +95,7 @@ pub(super) fn answer_of(
     let mut out = MemSink::make(alloc, 1 << 16, fails.out.to_vec(alloc)?).map_err(|_| "no room")?;
     let mut err = MemSink::make(alloc, 1 << 10, fails.err.to_vec(alloc)?).map_err(|_| "no room")?;
     let status = status_of(
+        rt,
         alloc,
         &words,
         &mut shelf,
@@ -170,7 +175,7 @@ fn certificates(rt: HostRuntime) -> Result<(), Fail> {
         ),
     ];
     for (file, want) in cases {
-        let answer = answer_of(rt.alloc(), &["auction", "a"], file.as_bytes(), NONE)?;
+        let answer = answer_of(&rt, rt.alloc(), &["auction", "a"], file.as_bytes(), NONE)?;
         assert_eq!(rt; answer.out.as_str(), want, "at {file}");
         assert_eq!(rt; answer.err.as_str(), "", "at {file}");
         assert_eq!(rt; answer.status, 0, "at {file}");
@@ -246,7 +251,7 @@ fn faults_of_a_file(rt: HostRuntime) -> Result<(), Fail> {
         ("grid 1000 10 11 1050\nbuy 1 m\u{e4}rket\n", "auction 2 9\n"),
     ];
     for (file, want) in cases {
-        let answer = answer_of(rt.alloc(), &["auction", "a"], file.as_bytes(), NONE)?;
+        let answer = answer_of(&rt, rt.alloc(), &["auction", "a"], file.as_bytes(), NONE)?;
         assert_eq!(rt; answer.err.as_str(), want, "at {file}");
         assert_eq!(rt; answer.out.as_str(), "", "at {file}");
         assert_eq!(rt; answer.status, 1, "at {file}");
@@ -273,26 +278,26 @@ fn limits_of_a_file(rt: HostRuntime) -> Result<(), Fail> {
     }
     line.push_str("\r\n")?;
     let good = long_file(alloc, 1, line.as_str())?;
-    let answer = answer_of(alloc, &["auction", "a"], good.as_bytes(), NONE)?;
+    let answer = answer_of(&rt, alloc, &["auction", "a"], good.as_bytes(), NONE)?;
     assert_eq!(rt; answer.out.as_str(), "calm - -\n");
     let mut longer = String::from_str(alloc, "#")?;
     longer.push_str(line.as_str())?;
     let long = long_file(alloc, 1, longer.as_str())?;
-    let answer = answer_of(alloc, &["auction", "a"], long.as_bytes(), NONE)?;
+    let answer = answer_of(&rt, alloc, &["auction", "a"], long.as_bytes(), NONE)?;
     assert_eq!(rt; answer.err.as_str(), "auction 2 7\n");
     // 500,000 lines, and one more.
     let most = long_file(alloc, 499_999, "\n")?;
-    let answer = answer_of(alloc, &["auction", "a"], most.as_bytes(), NONE)?;
+    let answer = answer_of(&rt, alloc, &["auction", "a"], most.as_bytes(), NONE)?;
     assert_eq!(rt; answer.out.as_str(), "calm - -\n");
     let more = long_file(alloc, 500_000, "\n")?;
-    let answer = answer_of(alloc, &["auction", "a"], more.as_bytes(), NONE)?;
+    let answer = answer_of(&rt, alloc, &["auction", "a"], more.as_bytes(), NONE)?;
     assert_eq!(rt; answer.err.as_str(), "auction 500001 8\n");
     Ok(())
 }
 
 #[test]
 fn refused_words(rt: HostRuntime) -> Result<(), Fail> {
-    let cases: [&[&str]; 9] = [
+    let cases: [&[&str]; 14] = [
         &[],
         &["auction"],
         &["auction", ""],
@@ -300,11 +305,16 @@ fn refused_words(rt: HostRuntime) -> Result<(), Fail> {
         &["auction", "-a"],
         &["auction", "a", "a"],
         &["Auction", "a"],
-        &["run", "a", "a"],
+        &["run"],
+        &["run", "a"],
+        &["run", "a", ""],
+        &["run", "-a", "a"],
+        &["run", "a", "a", "a"],
+        &["Run", "a", "a"],
         &["--help"],
     ];
     for words in cases {
-        let answer = answer_of(rt.alloc(), words, OPENING.as_bytes(), NONE)?;
+        let answer = answer_of(&rt, rt.alloc(), words, OPENING.as_bytes(), NONE)?;
         assert_eq!(rt; answer.err.as_str(), USAGE);
         assert_eq!(rt; answer.out.as_str(), "");
         assert_eq!(rt; answer.status, 2);
@@ -327,13 +337,16 @@ fn faults_of_the_shelf_and_the_sinks(rt: HostRuntime) -> Result<(), Fail> {
         by_plain: true,
         ..NONE
     };
-    let answer = answer_of(alloc, &["auction", "a"], opening, plain)?;
+    let answer = answer_of(&rt, alloc, &["auction", "a"], opening, plain)?;
     assert_eq!(rt; answer.status, 0);
     assert_eq!(rt;
         answer.out.as_str(),
         "rejected 1050 500 500 400 400\nrejected 1040 500 500 400 0\nprice 1060 400 500 300 400 400\n"
     );
-    let cases: [(&[&str], &[u8], Fails, u8, &str); 6] = [
+    let cases: [(&[&str], &[u8], Fails, u8, &str); 8] = [
+        // The words `run`: of the rules file, and of no file.
+        (&["run", "a", "b"], opening, NONE, 1, "rules 1\n"),
+        (&["run", "b", "a"], opening, NONE, 3, "read\n"),
         // A shelf without the file.
         (&["auction", "b"], opening, NONE, 3, "read\n"),
         // A read that fails.
@@ -345,7 +358,7 @@ fn faults_of_the_shelf_and_the_sinks(rt: HostRuntime) -> Result<(), Fail> {
         (&["auction", "a"], b"", err, 4, ""),
     ];
     for (words, file, fails, status, want) in cases {
-        let answer = answer_of(alloc, words, file, fails)?;
+        let answer = answer_of(&rt, alloc, words, file, fails)?;
         assert_eq!(rt; answer.status, status);
         assert_eq!(rt; answer.out.as_str(), "");
         assert_eq!(rt; answer.err.as_str(), want);

@@ -1,7 +1,7 @@
 // The call of the program over a rules file and a script in memory.
 ghost use Rattle.std.specs.Prelude.{◌≡◌, map, string_bytes, IfOk};
 
-use market_top::{file_words, run_market};
+use market_top::{file_words, is_run, run_plain};
 use memory_node::{MemRack, NodeFails};
 use mkt_base::NodeNo;
 use mkt_io::{MemShelf, MemSink};
@@ -142,7 +142,10 @@ pub(super) fn answer_of(
     let mut out = MemSink::make(alloc, room, fails.out.to_vec(alloc)?).map_err(|_| "no room")?;
     let mut err = MemSink::make(alloc, 1 << 10, fails.err.to_vec(alloc)?).map_err(|_| "no room")?;
     let mut rack = MemRack::make(alloc, node_fails(alloc, fails.nodes)?).map_err(|_| "no rack")?;
-    let status = run_market(alloc, &words, &mut shelf, &mut out, &mut err, &mut rack);
+    if is_run(&words) {
+        return Err("no words for this call")?;
+    }
+    let status = run_plain(alloc, &words, &mut shelf, &mut out, &mut err, &mut rack);
     Ok(Answer {
         status: status.0,
         out: String::from_utf8_lossy(alloc, out.bytes())?,

@@ -1,4 +1,4 @@
-use Rattle.std.proofs.Common.{◌≡◌, ℕ, ◌-◌, ◌<◌, List, length, refl, ap, subst, sym, ◌∙◌, arith, inl, inr, []}
+use Rattle.std.proofs.Common.{◌≡◌, ℕ, ◌-◌, List, length, refl, ap, subst, ◌∙◌, arith, inl, inr, []}
 use Rattle.mkt_base.specs.Book.{price_at}
 use Rattle.mkt_base.specs.Certificate.{Certificate, certificate_text}
 use Rattle.mkt_base.specs.declared.auction.Outcome.{Outcome}

@@ -1,4 +1,4 @@
-use Rattle.std.proofs.Common.{◌≡◌, Err, List, ℕ, ap, inr, subst, ◌∙◌}
+use Rattle.std.proofs.Common.{Err, List, ℕ, ap, inr, subst, ◌∙◌}
 use Rattle.market_top.specs.Audit.{IsAuditedUnder}
 use Rattle.market_top.specs.Verdict.{unread}
 use Rattle.market_top.proofs.VerdictLemmas.{Delivered-told, unread-is, unread-out}

@@ -2,7 +2,7 @@ use Rattle.std.proofs.Common.{◌≡◌, ℕ, List, Ok, sym, subst, ap, inl, ref
 use Rattle.script_file.specs.Faults.{Fails}
 use Rattle.script_file.specs.Generated.{generated}
 use Rattle.script_file.specs.Script.{script_of}
-use Rattle.market_top.specs.Replay.{no_script}
+use Rattle.market_top.specs.Files.{no_script}
 use Rattle.market_top.specs.Verdict.{no_memory}
 use Rattle.market_top.proofs.ReplayLemmas.{no-script-made, no-script-out, script-made}
 use Rattle.market_top.proofs.VerdictLemmas.{Delivered-told}

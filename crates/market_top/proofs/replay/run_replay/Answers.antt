@@ -1,37 +1,23 @@
-use Rattle.std.proofs.Common.{◌≡◌, Ok, Err, sym, ap, ◌∙◌, arith}
-use Rattle.rules_file.specs.Faults.{Fails}
-use Rattle.rules_file.specs.Rules.{rules_of}
-use Rattle.market_top.specs.Check.{no_rules}
-use Rattle.market_top.specs.Replay.{IsReplayVerdict, IsScriptVerdict}
-use Rattle.market_top.specs.Verdict.{OnFile, unread}
-use Rattle.market_top.proofs.ReplayLemmas.{OnFile-since, Rises-since, no-rules-on, rules-on}
-use Rattle.market_top.proofs.VerdictLemmas.{Answered-by, Delivered-told, no-rules-out, unread-is, unread-out}
+use Rattle.mkt_io.specs.Faults.{Rises}
+use Rattle.market_top.specs.Replay.{IsReplayed}
+use Rattle.market_top.specs.declared.extent.Extent.TheVariants.{Whole}
+use Rattle.market_top.proofs.ReplayLemmas.{delivered-since, files-on, files-refused}
+use Rattle.market_top.proofs.VerdictLemmas.{Answered-by, Delivered-told}
 use Rattle.market_top.proofs.replay.run_replay.Goals as goal
+
+pub returns-in-Ok : goal.returns-in-Ok
+returns-in-Ok g c =
+    let read = c.in-Ok.ensures in
+    let told = c.report_script.ensures in
+    Answered-by _ _ _ _ _ _ _ _ _ _ _ _ _ _ _ told.0 _
+    (files-on _ _ c.args.rules.now c.args.script.now (IsReplayed Whole _ _) c.in-Ok.said.rules c.in-Ok.said.script told.0 read.rules read.script told.1)
+    (delivered-since _ _ _ _ told.0 _ _ _ _ _ _ read.quiet told.2) read.count
 
 pub returns-in-Err : goal.returns-in-Err
 returns-in-Err g c =
-    let fault = c.in-Err.fault in
+    let read = c.in-Err.ensures in
     let files = g.F.Shelf.files c.args.shelf.now in
-    Answered-by _ _ _ _ _ _ _ _ _ _ _ _ _ _ _ (unread fault) _
-    (unread-is 1048576 files _ c.args.rules.now (IsReplayVerdict _ _ (OnFile 101000000 files _ c.args.script.now)) fault (λ read. c.read_whole.ensures.failed (c.in-Err.is ∙ ap Err read)))
-    (Delivered-told _ _ _ _ (unread fault) _ _ _ _ (unread-out fault) c.tell_unread.ensures) (omega arith)
-
-pub returns-in-Ok-read_rules : goal.returns-in-Ok-read_rules
-returns-in-Ok-read_rules g c =
-    let rules = c.in-Ok-read_rules.said in
-    let files = g.F.Shelf.files c.args.shelf.now in
-    let said : rules_of c.in-Ok.bytes.items ≡ Ok rules = ap rules_of (sym c.deref.ensures.value) ∙ c.in-Ok-read_rules.ensures.exact in
-    let verdict = c.replay_under.ensures.verdict in
-    Answered-by _ _ _ _ _ _ _ _ _ _ _ _ _ _ _ verdict.0 _
-    (rules-on files _ c.args.rules.now (λ said. OnFile 101000000 files _ c.args.script.now (IsScriptVerdict _ _ said)) c.in-Ok.bytes.items c.in-Ok.ensures.bytes rules verdict.0 said
-    (OnFile-since 101000000 files _ _ _ c.args.script.now (IsScriptVerdict _ _ rules) verdict.0 c.read_whole.ensures.files (Rises-since _ _ _ c.read_whole.ensures.count) verdict.1))
-    verdict.2 (omega arith)
-
-pub returns : goal.returns
-returns g c =
-    let fault = c.in-Err-read_rules.fault in
-    let files = g.F.Shelf.files c.args.shelf.now in
-    let fails : Fails fault (rules_of c.in-Ok.bytes.items) = rw (← c.deref.ensures.value) c.in-Err-read_rules.ensures.exact in
-    Answered-by _ _ _ _ _ _ _ _ _ _ _ _ _ _ _ (no_rules fault) _
-    (no-rules-on files _ c.args.rules.now (λ said. OnFile 101000000 files _ c.args.script.now (IsScriptVerdict _ _ said)) c.in-Ok.bytes.items c.in-Ok.ensures.bytes fault fails)
-    (Delivered-told _ _ _ _ (no_rules fault) _ _ _ _ (no-rules-out fault) c.tell_no_rules.ensures) (omega arith)
+    let failed = Rises (g.F.Shelf.faults c.args.shelf.now) (g.F.Shelf.faults c.read_both.new.shelf) in
+    Answered-by _ _ _ _ _ _ _ _ _ _ _ _ _ _ _ read.told.verdict _
+    (files-refused files failed c.args.rules.now c.args.script.now (IsReplayed Whole (g.R.Rack.is_out c.args.rack.now) (g.R.Rack.given c.args.rack.now)) read.told.verdict read.told.is)
+    (Delivered-told _ _ _ _ read.told.verdict _ _ _ _ read.told.nothing read.told.told) read.count

@@ -3,7 +3,6 @@ use Rattle.std.proofs.lemmas.List.{length-map, length_push, map_push}
 use Rattle.issue_journal.specs.Issue.{IssueNow}
 use Rattle.run_law.proofs.Lists.{get-behind}
 use Rattle.run_report.specs.declared.ended.EndedIssue.{EndedIssue}
-use Rattle.script_run.specs.Nodes.{AreGivenBack}
 use Rattle.script_run.specs.Running.{AreOutFrom, IsLabelled, ended_as}
 use Rattle.script_run.specs.Nodes.{node_label}
 use Rattle.script_run.proofs.ClosingLemmas.{given-push, none-from, out-less}

@@ -1,4 +1,4 @@
-use Rattle.std.proofs.Common.{◌≡◌, [], ◌∷◌, ◌++◌, get_or, Some, slice_get, slice_set, sym, ap, subst, ◌∙◌}
+use Rattle.std.proofs.Common.{[], ◌∷◌, ◌++◌, get_or, slice_get, slice_set, sym, ap, subst, ◌∙◌}
 use Rattle.mkt_base.specs.declared.script.Act.{Act}
 use Rattle.mkt_base.specs.declared.script.ShowLine.{ShowLine}
 use Rattle.issue_journal.specs.Issue.{IssueNow}

@@ -1,14 +1,11 @@
-use Rattle.std.proofs.Common.{◌≡◌, ◌≤◌, ◌<◌, ◌+◌, get_or, ◌++◌, ℕ, List, [], All, Some, filter, slice_get, length, take, drop, map, sym, ap, subst, ◌∙◌, arith, refl}
-use Rattle.std.proofs.lemmas.List.{take_all, take-append-le}
+use Rattle.std.proofs.Common.{◌≡◌, ◌≤◌, ◌<◌, ◌+◌, get_or, ◌++◌, ℕ, List, All, Some, slice_get, length, take, drop, sym, ap, subst, ◌∙◌, arith}
 use Rattle.rules_file.specs.Rules.{issues_in}
 use Rattle.issue_journal.specs.Issue.{IssueNow}
-use Rattle.mkt_base.specs.declared.script.ShowLine.{ShowLine}
 use Rattle.run_report.specs.Report.{IsRun}
 use Rattle.run_report.specs.declared.ended.EndedIssue.{EndedIssue}
 use Rattle.run_law.specs.Replayed.{IsReplayOf}
-use Rattle.run_law.specs.Run.{is_show}
 use Rattle.script_file.specs.declared.script.GatewayScriptLine.{GatewayScriptLine}
-use Rattle.script_run.specs.Running.{AreOutFrom, HasCome, IsAfter, MayDo, WasDone, WasRead, ended_as, run_of}
+use Rattle.script_run.specs.Running.{AreOutFrom, HasCome, MayDo, WasDone, WasRead, run_of}
 use Rattle.script_run.proofs.ClosingLemmas.{below-from}
 use Rattle.script_run.proofs.CountLemmas.{count_for-le, counts-few, length-counts}
 use Rattle.script_run.proofs.LineLemmas.{written-back}

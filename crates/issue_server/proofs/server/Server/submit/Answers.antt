@@ -6,6 +6,9 @@ returns-clause-turn g c = (c.record.ensures c.args.pass c.enter-turn.ensures.pas
 pub returns-clause-grows : goal.returns-clause-grows
 returns-clause-grows g c = (c.record.ensures c.args.pass c.enter-turn.ensures.pass c.enter-turn.ensures.finds).grows
 
+pub returns-clause-whole : goal.returns-clause-whole
+returns-clause-whole g c = (c.record.ensures c.args.pass c.enter-turn.ensures.pass c.enter-turn.ensures.finds).whole
+
 pub returns-clause-holds : goal.returns-clause-holds
 returns-clause-holds g c = (c.record.ensures c.args.pass c.enter-turn.ensures.pass c.enter-turn.ensures.finds).holds
 

@@ -1,0 +1,4 @@
+pub mod GrownLemmas
+mod HeldLemmas
+mod ShowLemmas
+mod StopLemmas

@@ -1,0 +1,5 @@
+pub mod ListLemmas
+pub mod ServeLemmas
+pub mod SeatLemmas
+pub mod MeetLemmas
+pub mod CloseLemmas

@@ -1,0 +1,5 @@
+mod ChooseLemmas
+mod ReadyLemmas
+mod DoneLemmas
+mod ClosedLemmas
+mod RunLemmas
