@@ -1,7 +1,7 @@
 -- What each call makes of the fields, and of the book that they stand for.
 use Rattle.std.proofs.Common.{◌≡◌, ◌≢◌, ℕ, ◌+◌, ◌-◌, ◌*◌, ◌<◌, ◌≤◌, ◌^◌, Bool, true, false, cond, not, eqb, List, [], ◌∷◌, ◌++◌, length, map, filter, get_or, replicate, set, Option, Some, None, refl, sym, ◌∙◌, ap, subst, inl, inr, arith}
 use Rattle.std.specs.List.{All, AllByRecursion, find, sum}
-use Rattle.std.specs.Option.{IsSome, option_map, option_map_or}
+use Rattle.std.specs.Option.{IsSome, option_map}
 use Rattle.std.proofs.lemmas.Bool.{eq-eqb, eqb-true, false≢true, ne_eqb}
 use Rattle.std.proofs.lemmas.Bool.Decides.{nat_tests}
 use Rattle.std.proofs.lemmas.List.{get_or-map, get_or-replicate, get_or-set_same, length-map, length-replicate, length-set, length_push, map-append}
@@ -20,7 +20,7 @@ use Rattle.order_book.specs.Linked.{AreApart, Holds, IsFiled, IsLinked, level_at
 use Rattle.order_book.specs.declared.depths.Depths.{Depths}
 use Rattle.order_book.specs.declared.held.Filed.{Filed}
 use Rattle.order_book.specs.declared.held.Held.{Held}
-use Rattle.order_book.proofs.FiledLemmas.{apart-filter, apart-map, apart-push, each-filter, each-map, each-push, filed-changed, filed-in, filed-inserted, filed-removed, filter-map, filter-same, find-cases, find-holds, find-passes, only-one}
+use Rattle.order_book.proofs.FiledLemmas.{apart-filter, apart-map, apart-push, filed-changed, filed-in, filed-inserted, filed-removed, filter-map, filter-same, find-cases, find-holds, find-passes, only-one}
 use Rattle.order_book.proofs.DepthLemmas.{depth-is, depths-fewer, depths-more, is_limit_upto, none-found, others, sum-is, total-less, total-most, total-push, total-without}
 use Rattle.order_book.proofs.PlainLemmas.{find-map}
 use Rattle.order_book.proofs.ViewLemmas.{inserted-stands, reduced-stands, without-stands}
@@ -128,7 +128,7 @@ level-within n Sell (At i) below = omega (arith, below)
 
 -- an order more
 module _ (n c b : ℕ) (ns : List (Linked Held)) (spare spare' : ℕ) (levels owners levels' owners' : Lists ℕ) (d d' : Depths) (is : Holds n c b ns spare levels owners d)
-    (o : Order) (h l w : ℕ) (x : Held) (x_is : x ≡ record { order = o; filed = Some (record { level = l; owner = w }) })
+    (o : Order) (h l w : ℕ) (x : Held) (x_is : x ≡ record { order = o; filed = record { level = l; owner = w } })
     (new : IsFreshOrder (record { prices = n; capacity = c; slots = map slot_at ns }) o) (fresh : AllByRecursion (λ m. m.link ≢ h) ns)
     (levels_are : levels'.lists ≡ with_last (level_key o) (record { link = l; item = h }) levels.lists) (level_free : ¬ IsLinkLive levels.lists l) (level_spare : levels'.spare + 1 ≡ levels.spare)
     (owners_are : owners'.lists ≡ with_last (owner_key b o) (record { link = w; item = h }) owners.lists) (owner_free : ¬ IsLinkLive owners.lists w) (owner_spare : owners'.spare + 1 ≡ owners.spare)
@@ -156,7 +156,6 @@ module _ (n c b : ℕ) (ns : List (Linked Held)) (spare spare' : ℕ) (levels ow
         book =
             subst (λ ss. IsBookView (record { prices = n; capacity = c; slots = ss })) (sym slots-inserted)
             (inserted-stands (record { prices = n; capacity = c; slots = map slot_at ns }) o h is.book new others-apart);
-        filed = each-push (λ m. IsSome m.item.filed) ns added is.filed (subst (λ (y : Held). IsSome y.filed) (sym x_is) refl);
         apart = apart-push (λ m. m.link) ns added is.apart fresh;
         by_level =
             subst (λ ls. IsFiled level_key level_at ls (ns ++ added ∷ [])) (sym levels_are)
@@ -202,7 +201,6 @@ module _ (n c b : ℕ) (ns : List (Linked Held)) (spare spare' : ℕ) (levels ow
         book =
             subst (λ ss. IsBookView (record { prices = n; capacity = c; slots = ss })) (sym (slots-without h ns))
             (without-stands (record { prices = n; capacity = c; slots = map slot_at ns }) h is.book);
-        filed = each-filter (λ m. IsSome m.item.filed) (λ m. not (is_link_at h m)) ns is.filed;
         apart = apart-filter (λ m. m.link) (λ m. not (is_link_at h m)) ns is.apart;
         by_level = subst (λ ls. IsFiled level_key level_at ls rest) (sym levels_are) (filed-removed level_key level_at levels.lists ns h gone is.apart is.by_level found);
         level_count = ap length levels_are ∙ length-map levels.lists _ ∙ is.level_count;
@@ -248,17 +246,14 @@ module _ (n c b : ℕ) (ns : List (Linked Held)) (spare : ℕ) (levels owners : 
             subst (λ ss. IsBookView (record { prices = n; capacity = c; slots = ss })) (sym slots-reduced)
             (reduced-stands view h by is.book
             (λ p other. let same : x.order ≡ p = ap (λ s. s.order) (same-some (slot_of h x.order) (slot_of h p) (sym names ∙ other)) in subst (λ q. by < q.left) same within));
-        filed =
-            each-map (λ m. m.link) (λ m. IsSome m.item.filed) (λ m. IsSome m.item.filed) (item_at h y) ns
-            (still ns) is.filed;
         apart = apart-map (λ m. m.link) (item_at h y) ns (same-links ns) is.apart;
         by_level =
             filed-changed level_key level_at levels.lists ns h was y is.apart is.by_level found (ap level_key order-less)
-            (ap (λ f. option_map_or (λ (g : Filed). g.level) f 0) filed-same);
+            (ap (λ (f : Filed). f.level) filed-same);
         level_count = is.level_count;
         by_owner =
             filed-changed (owner_key b) owner_at owners.lists ns h was y is.apart is.by_owner found (ap (owner_key b) order-less)
-            (ap (λ f. option_map_or (λ (g : Filed). g.owner) f 0) filed-same);
+            (ap (λ (f : Filed). f.owner) filed-same);
         owner_count = is.owner_count;
         some_bucket = is.some_bucket;
         depths =
@@ -272,14 +267,6 @@ module _ (n c b : ℕ) (ns : List (Linked Held)) (spare : ℕ) (levels owners : 
     where
       same-some : (a e : Slot) → Path (Option Slot) (Some a) (Some e) → a ≡ e
       same-some a e p = cc
-
-      still-one : (m : Linked Held) (t : Bool) → IsSome m.item.filed → IsSome (cond t y m.item).filed
-      still-one m true some = subst IsSome (sym filed-same) (find-holds (λ k. IsSome k.item.filed) (is_link_at h) ns was is.filed found)
-      still-one m false some = some
-
-      still : (ms : List (Linked Held)) → AllByRecursion (λ m. IsSome m.item.filed → IsSome (item_at h y m).item.filed) ms
-      still [] = tt
-      still (m ∷ ms) = (still-one m (is_link_at h m), still ms)
 
       same-links : (ms : List (Linked Held)) → AllByRecursion (λ m. (item_at h y m).link ≡ m.link) ms
       same-links [] = tt
@@ -314,22 +301,12 @@ module _ (n c b : ℕ) (held : Lists Held) (levels owners : Lists ℕ) (d : Dept
     pub named : Names now h node.0.order
     named = subst (λ v. Names v h node.0.order) view (names-node h nodes node.0 node.1)
 
-    -- it is filed
-    pub is-filed : IsSome node.0.filed
-    is-filed = find-holds (λ m. IsSome m.item.filed) (is_link_at h) nodes (record { link = h; item = node.0 }) is.holds.filed node.1
+    -- it is filed in its level and in its bucket
+    pub level-in : IsIn levels.lists (level_at node.0) (level_key node.0.order) h
+    level-in = filed-in level_key level_at levels.lists nodes h (record { link = h; item = node.0 }) is.holds.by_level node.1
 
-    module _ (f : Filed) (filed : node.0.filed ≡ Some f) where
-      pub level-is : level_at node.0 ≡ f.level
-      level-is = ap (λ o. option_map_or (λ (g : Filed). g.level) o 0) filed
-
-      pub owner-is : owner_at node.0 ≡ f.owner
-      owner-is = ap (λ o. option_map_or (λ (g : Filed). g.owner) o 0) filed
-
-      pub level-in : IsIn levels.lists f.level (level_key node.0.order) h
-      level-in = subst (λ l. IsIn levels.lists l (level_key node.0.order) h) level-is (filed-in level_key level_at levels.lists nodes h (record { link = h; item = node.0 }) is.holds.by_level node.1)
-
-      pub owner-in : IsIn owners.lists f.owner (owner_key b node.0.order) h
-      owner-in = subst (λ l. IsIn owners.lists l (owner_key b node.0.order) h) owner-is (filed-in (owner_key b) owner_at owners.lists nodes h (record { link = h; item = node.0 }) is.holds.by_owner node.1)
+    pub owner-in : IsIn owners.lists (owner_at node.0) (owner_key b node.0.order) h
+    owner-in = filed-in (owner_key b) owner_at owners.lists nodes h (record { link = h; item = node.0 }) is.holds.by_owner node.1
 
   -- an order that a handle finds stands on the grid
   pub spot-below : (h : ℕ) (x : Held) → find (is_link_at h) nodes ≡ Some (record { link = h; item = x }) → IsSpotBelow n x.order.spot
@@ -411,7 +388,7 @@ module _ (n c b : ℕ) (held : Lists Held) (levels owners : Lists ℕ) (d : Dept
     room-owners = omega (arith, room, is.holds.owner_room)
 
     -- an order more, filed under new links
-    module _ (held1 held2 : Lists Held) (levels' owners' : Lists ℕ) (d' : Depths) (h l w k j : ℕ) (x y : Held) (x_is : x ≡ record { order = o; filed = Some (record { level = l; owner = w }) })
+    module _ (held1 held2 : Lists Held) (levels' owners' : Lists ℕ) (d' : Depths) (h l w k j : ℕ) (x y : Held) (x_is : x ≡ record { order = o; filed = record { level = l; owner = w } })
         (pushed : held1.lists ≡ with_last 0 (record { link = h; item = y }) held.lists) (unlike : IsFresh held.lists h) (pushed_spare : held1.spare + 1 ≡ held.spare)
         (put : held2.lists ≡ with_item h x held1.lists) (put_spare : held2.spare ≡ held1.spare)
         (k_is : k ≡ level_no o.side o.spot) (levels_are : levels'.lists ≡ with_last k (record { link = l; item = h }) levels.lists) (level_free : ¬ IsLinkLive levels.lists l) (level_spare : levels'.spare + 1 ≡ levels.spare)
@@ -494,9 +471,9 @@ module _ (n c b : ℕ) (held : Lists Held) (levels owners : Lists ℕ) (d : Dept
         omega (arith, part, is.holds.depths.limit_buys, ap (λ t. cond t kept.order.left 0) so)
 
     -- an order less
-    module _ (held' : Lists Held) (levels' owners' : Lists ℕ) (d' : Depths) (taken : held'.lists ≡ without_link h held.lists) (held_spare : held'.spare ≡ held.spare + 1) (f : Filed) (filed : kept.filed ≡ Some f)
-        (levels_are : levels'.lists ≡ without_link f.level levels.lists) (level_spare : levels'.spare ≡ levels.spare + 1)
-        (owners_are : owners'.lists ≡ without_link f.owner owners.lists) (owner_spare : owners'.spare ≡ owners.spare + 1)
+    module _ (held' : Lists Held) (levels' owners' : Lists ℕ) (d' : Depths) (taken : held'.lists ≡ without_link h held.lists) (held_spare : held'.spare ≡ held.spare + 1)
+        (levels_are : levels'.lists ≡ without_link (level_at kept) levels.lists) (level_spare : levels'.spare ≡ levels.spare + 1)
+        (owners_are : owners'.lists ≡ without_link (owner_at kept) owners.lists) (owner_spare : owners'.spare ≡ owners.spare + 1)
         (depths_are : d' ≡ fewer kept.order.side kept.order.spot kept.order.left d) where
       rest-nodes : list_at held'.lists 0 ≡ filter (λ m. not (is_link_at h m)) nodes
       rest-nodes = ap (λ ls. list_at ls 0) taken ∙ get_or-map (filter (λ m. not (is_link_at h m))) held.lists 0 [] [] (omega (arith, is.one))
@@ -508,8 +485,8 @@ module _ (n c b : ℕ) (held : Lists Held) (levels owners : Lists ℕ) (d : Dept
             holds =
                 subst (λ ms. Holds n c b ms held'.spare levels' owners' d') (sym rest-nodes)
                 (removed-holds n c b nodes held.spare held'.spare levels owners levels' owners' d d' is.holds h kept found node-below
-                (levels_are ∙ ap (λ l. without_link l levels.lists) (sym (level-is h live f filed))) level_spare
-                (owners_are ∙ ap (λ l. without_link l owners.lists) (sym (owner-is h live f filed))) owner_spare depths_are held_spare);
+                levels_are level_spare
+                owners_are owner_spare depths_are held_spare);
           }
 
       pub removed-view : linked n c held'.lists ≡ without h now
@@ -566,7 +543,6 @@ made-linked n c b held levels owners d some few bound buckets held_is levels_are
                   limit = λ k e h. absurd (omega (arith, h));
                   spots = λ k e h. absurd (omega (arith, h));
                 };
-            filed = tt;
             apart = tt;
             by_level = none-filed level_key level_at levels.lists (2 * n + 2) levels_are;
             level_count = ap length levels_are ∙ length-replicate (2 * n + 2) [];

@@ -3,6 +3,7 @@ use Rattle.std.proofs.Common.{◌≡◌, ℕ, ◌+◌, ◌-◌, ◌*◌, ◌<◌
 use Rattle.std.specs.List.{All, sum}
 use Rattle.std.specs.Option.{MatchOption}
 use Rattle.std.proofs.lemmas.Bool.Decides.{nat_tests}
+use Rattle.std.proofs.lemmas.List.Elements.{All-weaker}
 use Rattle.depth_index.specs.Depths.{IsFirstReaching, IsNowhereReached, sum_upto}
 use Rattle.order_list.specs.Lists.{Lists}
 use Rattle.mkt_base.specs.Book.{is_buy_above, is_buy_at, is_sell_at, is_sell_below, price_at, sums_at, total_left}
@@ -22,9 +23,9 @@ use Rattle.order_book.specs.Plain.{is_part}
 use Rattle.order_book.specs.declared.depths.Depths.{Depths}
 use Rattle.order_book.specs.declared.held.Held.{Held}
 use Rattle.order_book.specs.declared.total.Part.TheVariants.{BuysFrom, BuysAbove, SellsTo, SellsBelow}
-use Rattle.order_book.proofs.BookLemmas.{few, nodes, on-grid, orders-of, sells-sum, total-fits}
+use Rattle.order_book.proofs.BookLemmas.{buys-sum, few, nodes, on-grid, orders-of, sells-sum, total-fits}
 use Rattle.order_book.proofs.DepthLemmas.{is_limit_upto, match-weaker, term, total-joined, upto-is}
-use Rattle.order_book.proofs.SumLemmas.{buys-above, buys-from, sells-below, sells-to, sums-same}
+use Rattle.order_book.proofs.SumLemmas.{buys-above, buys-from, sells-below, sells-to, sums-same, total-same}
 
 -- a limit buy above the position
 abbrev pub above_at : ℕ → Side → Spot → Bool
@@ -119,6 +120,19 @@ module _ (n c b : ℕ) (held : Lists Held) (levels owners : Lists ℕ) (d : Dept
         reached = omega (arith, reached.reached, limits-upto side i within);
         first = λ k h. let short = reached.first k h in omega (arith, short, limits-upto side k (omega (arith, h, within)));
       }) first
+
+  -- the limit buys together are those of all positions
+  pub limits-sum : d.limit_buys ≡ sum d.buys
+  limits-sum =
+      is.holds.depths.limit_buys
+      ∙ total-same (by_spot is_limit_buy) (by_spot (is_limit_upto Buy (n - 1))) os
+      (All-weaker (λ o. IsSpotBelow n o.spot) (λ o. by_spot is_limit_buy o ≡ by_spot (is_limit_upto Buy (n - 1)) o) (λ o below. same_limits o.side o.spot below) os (on-grid n c b held levels owners d is now view))
+      ∙ sym (buys-sum n c b held levels owners d is now view)
+    where
+      same_limits : (side : Side) (spot : Spot) → IsSpotBelow n spot → is_limit_buy side spot ≡ is_limit_upto Buy (n - 1) side spot
+      same_limits Buy Market below = refl
+      same_limits Buy (At j) below = grind (arith, nat_tests)
+      same_limits Sell spot below = refl
 
   -- no sum is near what 64 bits hold
   pub sells-fit : sum d.sells < 2 ^ 63

@@ -1,8 +1,7 @@
 -- How a `Book` keeps its orders: one list of them by place, one list of their handles for each level, and one for each bucket of
 -- callers' own numbers. No public clause cites this module.
-use Rattle.std.specs.Prelude.{◌≡◌, ◌≢◌, ℕ, ◌+◌, ◌*◌, ◌%◌, ◌<◌, ◌≤◌, ◌==◌, List, [], ◌∷◌, length, map, filter, IsSome}
+use Rattle.std.specs.Prelude.{◌≡◌, ◌≢◌, ℕ, ◌+◌, ◌*◌, ◌%◌, ◌<◌, ◌≤◌, ◌==◌, List, [], ◌∷◌, length, map, filter}
 use Rattle.std.specs.List.{AllByRecursion}
-use Rattle.std.specs.Option.{option_map_or}
 use Rattle.order_list.specs.Lists.{Linked, Lists, list_at}
 use Rattle.mkt_base.specs.declared.units.Caller.{Caller}
 use Rattle.mkt_base.specs.declared.order.Side.{Side}
@@ -34,11 +33,11 @@ owner_key buckets o = bucket_of buckets o.caller o.own
 
 -- the order's link in its level
 abbrev pub level_at : Held → ℕ
-level_at x = option_map_or (λ f. f.level) x.filed 0
+level_at x = x.filed.level
 
 -- and in its bucket
 abbrev pub owner_at : Held → ℕ
-owner_at x = option_map_or (λ f. f.owner) x.filed 0
+owner_at x = x.filed.owner
 
 abbrev pub slot_at : Linked Held → Slot
 slot_at n = slot_of n.link n.item.order
@@ -69,7 +68,6 @@ pub record IsFiled (key : Order → ℕ) (at : Held → ℕ) (lists : List (List
 -- bucket, the levels' numbers are theirs, and there is room for as many orders as the book was made for
 pub record Holds (prices capacity buckets : ℕ) (ns : List (Linked Held)) (spare : ℕ) (levels owners : Lists ℕ) (d : Depths) : Type 0 where
   pub book : IsBookView (record { prices = prices; capacity = capacity; slots = map slot_at ns })
-  pub filed : AllByRecursion (λ n. IsSome n.item.filed) ns
   pub apart : AreApart (λ n. n.link) ns
   pub by_level : IsFiled level_key level_at levels.lists ns
   pub level_count : length levels.lists ≡ 2 * prices + 2

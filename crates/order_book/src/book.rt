@@ -102,17 +102,18 @@ impl Book {
     {
         let owner = bucket(self.buckets, order.caller, order.own);
         let level = level_of(order.side, order.spot);
-        let link = self.held.push_back(0, Held { order, filed: None });
+        // The other lists hold the handle, so that their links are written last.
+        let held = Held {
+            order,
+            filed: Filed::default(),
+        };
+        let link = self.held.push_back(0, held);
         let handle = Handle::new(link);
         let filed = Filed {
             level: self.levels.push_back(level, handle),
             owner: self.owners.push_back(owner, handle),
         };
-        let held = Held {
-            order,
-            filed: Some(filed),
-        };
-        self.held.set(link, held);
+        self.held.item_mut(link).filed = filed;
         self.depths.add(order.side, order.spot, order.left);
         handle
     }
@@ -131,17 +132,10 @@ impl Book {
         requires less { (o : Order) → Names self.old handle o → by < o.left }
         ensures { self.new ≡ reduced handle by self.old }
     {
-        let held = self.held.item(handle.link());
-        let order = Order {
-            left: held.order.left - by,
-            ..held.order
-        };
-        self.depths.sub(order.side, order.spot, by);
-        let less = Held {
-            order,
-            filed: held.filed,
-        };
-        self.held.set(handle.link(), less);
+        let held = self.held.item_mut(handle.link());
+        held.order.left -= by;
+        let (side, spot) = (held.order.side, held.order.spot);
+        self.depths.sub(side, spot, by);
     }
 
     /// Takes an order out, and gives it as it was. There is room for another, and every other order stays.
@@ -151,9 +145,6 @@ impl Book {
         ensures book { self.new ≡ without handle self.old }
     {
         let Held { order, filed } = self.held.unlink(handle.link());
-        let Some(filed) = filed else {
-            unreachable!();
-        };
         self.levels.unlink(filed.level);
         self.owners.unlink(filed.owner);
         self.depths.sub(order.side, order.spot, order.left);
@@ -187,9 +178,6 @@ impl Book {
             → side_of self.now side ≡ before ++ o ∷ rest → NamesFirst self.now rest result }
     {
         let Held { order, filed } = self.held.item(handle.link());
-        let Some(filed) = filed else {
-            unreachable!();
-        };
         match self.levels.next(filed.level) {
             Some(link) => Some(self.levels.item(link)),
             None => self.behind(order.side, order.spot),

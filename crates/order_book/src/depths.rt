@@ -1,5 +1,5 @@
 // What the levels of a book have left, and its running sums.
-ghost use Rattle.std.specs.Prelude.{◌≡◌, ◌+◌, ◌^◌, ◌<◌, ◌≤◌, true, IfOk, MatchOption, length, replicate, sum};
+ghost use Rattle.std.specs.Prelude.{◌≡◌, ℕ, ◌+◌, ◌-◌, ◌^◌, ◌<◌, ◌≤◌, true, IfOk, MatchOption, length, replicate, sum};
 ghost use Rattle.depth_index.specs.Depths.{IsFirstReaching, IsNowhereReached, TakesFewSteps, sum_upto};
 ghost use Rattle.book_law.specs.BookView.{IsSpotBelow};
 ghost use Rattle.order_book.specs.Depths.{IsEmptyWithin, IsFirstFrom, IsLastBelow, IsNextBehind, IsNoneBehind, depth_at, fewer, is_limit_buy, limits_of, more};
@@ -131,6 +131,14 @@ impl Depths {
             return None;
         }
         let rest = self.buys.upto(below - 1, steps);
+        self.last_buy(rest, steps)
+    }
+
+    // The highest position at which a buy stands, of those that have `rest` together from the lowest one on.
+    fn last_buy<L: Ledger>(&self, rest: u64, steps: &mut Steps<L>) -> Option<u32>
+        ensures { (below : ℕ) → 0 < below → below ≤ length self.now.buys → rest ≡ sum_upto self.now.buys (below - 1)
+            → MatchOption result (IsEmptyWithin self.now.buys 0 below) (IsLastBelow self.now.buys below) }
+    {
         if rest == 0 {
             return None;
         }
@@ -164,12 +172,14 @@ impl Depths {
         requires buys { length self.now.buys ≡ prices }
         requires sells { length self.now.sells ≡ prices }
         requires spot { IsSpotBelow prices spot }
+        requires prices { 0 < prices }
+        requires limits { self.now.limit_buys ≡ sum self.now.buys }
         requires fits { sum self.now.sells < 2 ^ 63 }
         ensures { MatchOption result (IsNoneBehind prices side spot self.now) (IsNextBehind prices side spot self.now) }
     {
         let mut steps = Steps::<L>::new(blank);
         match (side, spot) {
-            (Side::Buy, Spot::Market) => self.buy_below(prices, &mut steps),
+            (Side::Buy, Spot::Market) => self.last_buy(self.limit_buys, &mut steps),
             (Side::Buy, Spot::At(i)) => self.buy_below(i, &mut steps),
             (Side::Sell, Spot::Market) => self.sell_from(0, &mut steps),
             (Side::Sell, Spot::At(i)) => self.sell_from(i + 1, &mut steps),

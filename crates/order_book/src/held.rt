@@ -7,7 +7,7 @@ use mkt_base::{Caller, Order, Side, Spot};
 use order_list::Link;
 
 // The order's links in the list of its level and in that of its caller's bucket.
-#[derive(Clone, Copy)]
+#[derive(Clone, Copy, Default)]
 pub(crate) struct Filed {
     pub(crate) level: Link,
     pub(crate) owner: Link,
@@ -16,7 +16,7 @@ pub(crate) struct Filed {
 #[derive(Clone, Copy)]
 pub(crate) struct Held {
     pub(crate) order: Order,
-    pub(crate) filed: Option<Filed>,
+    pub(crate) filed: Filed,
 }
 
 // The number of a level's list: those of the market first, then two for each position.

@@ -4,7 +4,9 @@ use Rattle.std.proofs.lemmas.Bool.{cases_lt}
 use Rattle.std.proofs.lemmas.List.{append-nil, drop_all, get_or-replicate, get_or_past, length-replicate, take_all}
 use Rattle.std.specs.List.{after_first, count_by, filter, find}
 use Rattle.std.proofs.lemmas.List.Folds.{sum_by-replicate}
-use Rattle.slab.specs.Slab.{ContainsKey, Slab, Updates, get, slab_len}
+use Rattle.std.proofs.lemmas.Grind.{common_steps}
+use Rattle.slab.specs.Slab.{ContainsKey, Slab, Updates, get, slab_len, with_value}
+use Rattle.slab.proofs.SlabLemmas.{ContainsKey-within, Updates-with_value}
 use Rattle.order_list.specs.Lists.{AreLists, IsFresh, IsIn, IsLive, Linked, Lists, first_link, is_at, item_at, list_at, put_before, with_before, with_item, without}
 use Rattle.order_list.specs.Links.{AreApart, AreLinked, ChangesNode, IsAbsent, IsSegment, IsSound, PutsBetween, SetsAfter, SetsBefore, end_at, no_ends, shown}
 use Rattle.order_list.specs.declared.node.Node.{Node}
@@ -70,6 +72,7 @@ module _ {T : Type 0} where
               linked = close-with nodes' ends' lists list xs ys p q m three cell (apart-with xs m ys apart (subst (IsAbsent key) is (absent list))) sound.linked.apart;
               counted = omega (arith, counts.0, counts_too.0, puts.adds.count, sound.counted, total-set lists list new inside, ap (length {A = Linked T}) is, length-middle xs m ys);
               room = omega (arith, counts.0, counts.1, counts_too.0, counts_too.1, puts.adds.count, puts.adds.capacity, room);
+              small = omega (arith, counts.1, counts_too.1, puts.adds.capacity, sound.small);
             };
         are = refl;
       }
@@ -226,6 +229,7 @@ module _ {T : Type 0} where
                   linked = close-joined nodes' ends' lists list has.xs has.ys has.p has.q closed apart sound.linked.apart;
                   counted = omega (arith, counts.0, counts_too.0, count, sound.counted, total-set lists list new live.within, ap (length {A = Linked T}) has.is, length-middle has.xs here has.ys);
                   room = omega (arith, counts.0, counts.1, counts_too.0, counts_too.1, count, capacity, sound.room);
+                  small = omega (arith, counts.1, counts_too.1, capacity, sound.small);
                 };
             are = sym written;
           }
@@ -258,22 +262,39 @@ module _ {T : Type 0} where
                   (apart-with has.xs there has.ys apart (append-absent link has.xs has.ys middle.0 middle.1)) sound.linked.apart;
               counted = omega (arith, changes.count, sound.counted, total-set lists list new live.within, ap (length {A = Linked T}) has.is, length-middle has.xs here has.ys, length-middle has.xs there has.ys);
               room = omega (arith, changes.count, changes.capacity, sound.room);
+              small = omega (arith, changes.capacity, sound.small);
             };
         are = sym written;
       }
 
-  -- room of a slab that only grows
-  pub grown : (nodes nodes' : Slab (Node T)) (ends : List Ends) (sound : IsSound nodes ends) → nodes' ≡ record nodes { capacity = nodes'.capacity }
-      → nodes.capacity ≤ nodes'.capacity → IsSound nodes' ends
-  grown nodes nodes' ends sound kept more =
-      let slots : nodes'.slots ≡ nodes.slots = ap (λ (s : Slab (Node T)). s.slots) kept in
+  -- a write through a reference to a node's item changes that node
+  pub written-item : (nodes : Slab (Node T)) (key : ℕ) (node : Node T) (item : T) → get nodes key ≡ Some node
+      → ChangesNode (λ n. record n { item = item }) nodes key (with_value nodes key (record node { item = item }))
+  written-item nodes key node item is =
+      let has : ContainsKey nodes key = subst (λ (o : Option (Node T)). IsSome o) (sym is) refl in
+      let updates = Updates-with_value nodes key (record node { item = item }) has in
+      record {
+        changed = λ n there.
+            let both : Path (Option (Node T)) (Some n) (Some node) = sym there ∙ is in
+            let same : n ≡ node = cc in
+            updates.changed ∙ ap (λ (m : Node T). Some (record m { item = item })) (sym same);
+        others = updates.others;
+        count = grind (arith, common_steps, ContainsKey-within);
+        capacity = refl;
+      }
+
+  -- the same nodes with other room
+  pub grown : (nodes nodes' : Slab (Node T)) (ends : List Ends) (sound : IsSound nodes ends) → nodes'.slots ≡ nodes.slots
+      → slab_len nodes' ≤ nodes'.capacity → nodes'.capacity ≤ 4294967295 → IsSound nodes' ends
+  grown nodes nodes' ends sound slots room small =
       let cells : get nodes' ≡ get nodes = ap (λ (slots : List (Option (Node T))). λ key. get_or slots key None) slots in
       let count : slab_len nodes' ≡ slab_len nodes = ap (λ (slots : List (Option (Node T))). count_by is_some slots) slots in
       record {
         lists = sound.lists;
         linked = subst (λ f. AreLinked f ends sound.lists) (sym cells) sound.linked;
         counted = omega (arith, count, sound.counted);
-        room = omega (arith, count, sound.room);
+        room = room;
+        small = small;
       }
 
   pub item-is : (nodes : Slab (Node T)) (ends : List Ends) (sound : IsSound nodes ends) (link list : ℕ) (item : T) (node : Node T)
@@ -323,9 +344,9 @@ module _ {T : Type 0} where
         | inr past ↦ get_or_past (replicate n none) list [] (omega (arith, length-replicate n none))
       ]
 
-  pub empty : (nodes : Slab (Node T)) (ends : List Ends) (n : ℕ) → nodes.slots ≡ [] → ends ≡ replicate n no_ends
+  pub empty : (nodes : Slab (Node T)) (ends : List Ends) (n : ℕ) → nodes.slots ≡ [] → nodes.capacity ≡ 0 → ends ≡ replicate n no_ends
       → StandsFor nodes ends (replicate n [])
-  empty nodes ends n none are =
+  empty nodes ends n none capacity are =
       let lists : List (List (Linked T)) = replicate n [] in
       let count : slab_len nodes ≡ 0 = ap (λ (slots : List (Option (Node T))). count_by is_some slots) none in
       let size : length ends ≡ n = ap length are ∙ length-replicate n no_ends in
@@ -345,6 +366,7 @@ module _ {T : Type 0} where
                   };
               counted = omega (arith, count, sum_by-replicate (length {A = Linked T}) n []);
               room = omega (arith, count);
+              small = omega (arith, capacity);
             };
         are = refl;
       }
@@ -352,7 +374,7 @@ module _ {T : Type 0} where
   pub empty-shown : (nodes : Slab (Node T)) (ends : List Ends) (n : ℕ) → nodes.slots ≡ [] → nodes.capacity ≡ 0 → ends ≡ replicate n no_ends
       → shown nodes ends ≡ record { lists = replicate n []; spare = 0 }
   empty-shown nodes ends n none room are =
-      let stands = empty nodes ends n none are in
+      let stands = empty nodes ends n none room are in
       let spare : nodes.capacity - slab_len nodes ≡ 0 = omega (arith, room) in
       ap (λ (ls : List (List (Linked T))). record { lists = ls; spare = nodes.capacity - slab_len nodes }) (shown-is nodes ends stands.sound ∙ stands.are)
       ∙ ap (λ (s : ℕ). record { lists = replicate n []; spare = s }) spare

@@ -42,7 +42,7 @@ changed_in_its_place = refl
 names_its_item : IsIn two 1 0 8
 names_its_item = record { within = lit< tt; found = refl }
 
-no_key_is_none : link_of 18446744073709551615 ≡ None
+no_key_is_none : link_of 4294967295 ≡ None
 no_key_is_none = refl
 
 none_and_back : key_of (link_of 3) ≡ 3

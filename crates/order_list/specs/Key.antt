@@ -3,7 +3,7 @@ use Rattle.std.specs.Prelude.{ℕ, ◌==◌, Option, Some, None, if◌then◌els
 
 -- the greatest key stands for none
 abbrev pub link_of : ℕ → Option ℕ
-link_of key = if key == 18446744073709551615 then None else Some key
+link_of key = if key == 4294967295 then None else Some key
 
 abbrev pub key_of : Option ℕ → ℕ
-key_of o = unwrap_or o 18446744073709551615
+key_of o = unwrap_or o 4294967295

@@ -1,3 +1,4 @@
 pub mod Key
+pub mod Lending
 pub mod Links
 pub mod Lists

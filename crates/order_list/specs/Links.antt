@@ -1,6 +1,6 @@
 -- How an `OrderList` keeps its lists. No public clause cites this module.
 use Rattle.std.specs.Prelude.{◌≡◌, ◌≢◌, ℕ, zero, suc, ◌+◌, ◌-◌, ◌<◌, ◌≤◌, List, [], ◌∷◌, length, map, Option, Some, None, option_map, slice_index_or, slice_set, sum_by, unwrap_or}
-use Rattle.slab.specs.Slab.{Slab, get, slab_len}
+use Rattle.slab.specs.Slab.{HasRoomFor, Slab, get, slab_len}
 use Rattle.order_list.specs.Lists.{Linked, Lists, list_at}
 use Rattle.order_list.specs.declared.node.Node.{Node}
 use Rattle.order_list.specs.declared.node.Ends.{Ends}
@@ -61,6 +61,13 @@ module _ {T : Type 0} where
     pub linked : AreLinked (get nodes) ends lists
     pub counted : slab_len nodes ≡ sum_by length lists
     pub room : slab_len nodes ≤ nodes.capacity
+    pub small : nodes.capacity ≤ 4294967295
+
+  -- the same nodes, with room for so many more and for no more than keys can name
+  pub record IsGrown (old : Slab (Node T)) (more : ℕ) (new : Slab (Node T)) : Type 0 where
+    pub kept : new.slots ≡ old.slots
+    pub room : HasRoomFor new more
+    pub small : new.capacity ≤ 4294967295
 
   -- a node more, under a key that had none
   pub record AddsNode (node : Node T) (key : ℕ) (old new : Slab (Node T)) : Type 0 where

@@ -3,14 +3,14 @@ ghost use Rattle.std.specs.Prelude.{◌≡◌, ◌<◌, None, Some};
 
 use std::marker::Model;
 
-// No key of a slab: a key is below the slab's capacity, which is a `usize` too.
-const NO_KEY: usize = usize::MAX;
+// No key of a node: the lists have room for fewer nodes, so that a key takes four bytes.
+const NO_KEY: u32 = u32::MAX;
 
-/// Names an item of one `OrderList` until it is unlinked; the list may give the same link out again after that. Contracts
-/// see a number.
-#[derive(Clone, Copy, Debug, PartialEq, Eq)]
+/// Names an item of one `OrderList` until it is unlinked; the list may give the same link out again after that. The default
+/// one holds the place of a link that is not known yet. Contracts see a number.
+#[derive(Clone, Copy, Debug, Default, PartialEq, Eq)]
 pub struct Link {
-    key: usize,
+    key: u32,
 }
 
 impl Model for Link {
@@ -20,31 +20,31 @@ impl Model for Link {
 
     ghost view = { λ l. l.key };
 
-    ghost invariant = { λ l. l.key < 18446744073709551615 };
+    ghost invariant = { λ l. l.key < 4294967295 };
 
     ghost inverse = { λ n. record { key = n } };
 }
 
 impl Link {
     pub(crate) fn new(key: usize) -> Link
-        requires { key < 18446744073709551615 }
+        requires { key < 4294967295 }
         ensures { result ≡ key }
     {
-        Link { key }
+        Link { key: key as u32 }
     }
 
     pub(crate) fn key(self) -> usize
         ensures value { result ≡ self }
-        ensures some { result < 18446744073709551615 }
+        ensures some { result < 4294967295 }
     {
-        self.key
+        self.key as usize
     }
 }
 
-// The link of the node on one side, or none at an end of the list: eight bytes, where an `Option` takes sixteen.
+// The link of the node on one side, or none at an end of the list: four bytes, where an `Option` takes eight.
 #[derive(Clone, Copy)]
 pub(crate) struct Neighbour {
-    key: usize,
+    key: u32,
 }
 
 impl Model for Neighbour {
@@ -68,7 +68,7 @@ impl Neighbour {
     pub(crate) fn of(link: Link) -> Neighbour
         ensures { result ≡ Some link }
     {
-        Neighbour { key: link.key() }
+        Neighbour { key: link.key }
     }
 
     pub(crate) fn link(self) -> Option<Link>
@@ -77,7 +77,7 @@ impl Neighbour {
         if self.key == NO_KEY {
             None
         } else {
-            Some(Link::new(self.key))
+            Some(Link { key: self.key })
         }
     }
 }

@@ -2,7 +2,7 @@
 ghost use Rattle.std.specs.Prelude.{◌≡◌, ℕ, ◌+◌, ◌<◌, ◌≤◌, [], IfOk, IfSome, IsOk, OnOk, Some, length, option_map, replicate, slice_get};
 ghost use Rattle.std.specs.List.{after_first};
 ghost use Rattle.slab.specs.Slab.{ContainsKey, HasRoomFor};
-ghost use Rattle.order_list.specs.Links.{AddsNode, PutsBetween, no_ends};
+ghost use Rattle.order_list.specs.Links.{AddsNode, IsGrown, PutsBetween, no_ends};
 ghost use Rattle.order_list.specs.Lists.{AreLists, IsFresh, IsIn, IsLive, OthersStay, Stay, first_link, is_at, list_at, with_before, with_item, with_last, without};
 
 use crate::link::{Link, Neighbour};
@@ -43,6 +43,9 @@ impl<T: Copy> Model for OrderList<T> {
 }
 
 impl<T: Copy> OrderList<T> {
+    ghost use Rattle.std.specs.Borrow.{sem};
+    ghost use Rattle.order_list.specs.Lending.{LendsItem};
+
     /// So many empty lists, with no room for an item yet.
     pub fn make(alloc: Global, lists: u32) -> Result<OrderList<T>, ListFault>
         ensures { IfOk result (λ made. made ≡ record { lists = replicate lists []; spare = 0 }) }
@@ -54,16 +57,19 @@ impl<T: Copy> OrderList<T> {
         })
     }
 
-    /// Makes room for `n` more items. What room there was stays, whatever is answered.
+    /// Makes room for `n` more items, in all for fewer than 4,294,967,296. What room there was stays, whatever is answered.
+    /// Items that are there already are copied.
     pub fn reserve(&mut self, _alloc: Global, n: u32) -> Result<(), ListFault>
         ensures room { OnOk result (n ≤ self.new.spare) }
         ensures lists { self.new.lists ≡ self.old.lists }
         ensures kept { self.old.spare ≤ self.new.spare }
         ensures succeeds { n ≤ self.old.spare → IsOk result }
     {
-        self.nodes
-            .reserve(n as usize)
-            .map_err(|_| ListFault::Memory)
+        let more = n as usize;
+        if more > self.spare() {
+            self.nodes = with_room(&self.nodes, more)?;
+        }
+        Ok(())
     }
 
     /// How many more items can be put in without memory.
@@ -189,6 +195,16 @@ impl<T: Copy> OrderList<T> {
         self.nodes[link.key()].item
     }
 
+    /// The item that a live link names, for writing.
+    pub fn item_mut(&mut self, link: Link) -> &mut T
+        requires { IsLive self.old.lists link }
+        ensures* writes_back { sem 𝓛 (LendsItem T.row self.entry link result) }
+        ensures item { (list : ℕ) (item : T) → IsIn self.old.lists link list item → result.now ≡ item }
+    {
+        let node = &mut self.nodes[link.key()];
+        &mut node.item
+    }
+
     /// Puts another item in the place of the one that a live link names.
     pub fn set(&mut self, link: Link, item: T)
         requires { IsLive self.old.lists link }
@@ -200,6 +216,19 @@ impl<T: Copy> OrderList<T> {
     {
         set_item(&mut self.nodes, link.key(), item);
     }
+}
+
+// The same nodes with room for so many more. They are copied, so that those that there are keep their room where the copy
+// has more than a key can name: how much a slab makes room for is its own affair.
+fn with_room<T: Copy>(nodes: &Slab<Node<T>>, more: usize) -> Result<Slab<Node<T>>, ListFault>
+    ensures { IfOk result (IsGrown nodes.now more) }
+{
+    let mut grown = nodes.clone().map_err(|_| ListFault::Memory)?;
+    grown.reserve(more).map_err(|_| ListFault::Memory)?;
+    if grown.capacity() > u32::MAX as usize {
+        return Err(ListFault::Memory);
+    }
+    Ok(grown)
 }
 
 // The ends of so many empty lists.
@@ -226,6 +255,7 @@ fn put_between<T: Copy>(
     item: T,
 ) -> Link
     requires room { HasRoomFor nodes.old 1 }
+    requires small { nodes.old.capacity ≤ 4294967295 }
     requires within { list < length ends.old }
     requires before { (key : ℕ) → before ≡ Some key → ContainsKey nodes.old key }
     requires after { (key : ℕ) → after ≡ Some key → ContainsKey nodes.old key }
@@ -246,10 +276,9 @@ fn put_between<T: Copy>(
 }
 
 fn add_node<T: Copy>(nodes: &mut Slab<Node<T>>, node: Node<T>) -> Link
-    requires { HasRoomFor nodes.old 1 }
+    requires room { HasRoomFor nodes.old 1 }
+    requires small { nodes.old.capacity ≤ 4294967295 }
     ensures { AddsNode node result nodes.old nodes.new }
 {
-    // The key is below this, and so no greatest `usize`.
-    let _capacity = nodes.capacity();
     Link::new(nodes.insert_reserved(node))
 }

@@ -6,6 +6,7 @@ ghost use Rattle.order_list.specs.Links.{ChangesNode, SetsAfter, SetsBefore};
 
 use crate::link::Neighbour;
 use slab::Slab;
+use std::alloc::AllocError;
 
 #[derive(Drop)]
 pub(crate) struct Node<T> {
@@ -13,6 +14,19 @@ pub(crate) struct Node<T> {
     pub(crate) before: Neighbour,
     pub(crate) after: Neighbour,
     pub(crate) item: T,
+}
+
+impl<T: Copy> Clone for Node<T> {
+    ghost is_clone = { λ node copy. copy ≡ node };
+
+    fn clone(&self) -> Result<Self, AllocError> {
+        Ok(Node {
+            list: self.list,
+            before: self.before,
+            after: self.after,
+            item: self.item,
+        })
+    }
 }
 
 #[derive(Drop)]

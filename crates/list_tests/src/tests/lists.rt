@@ -41,6 +41,19 @@ fn an_item_is_put_in_and_taken_out(rt: HostRuntime) -> Result<(), Fail> {
 }
 
 #[test]
+fn an_item_is_written_in_its_place_and_stays_where_room_grows(rt: HostRuntime) -> Result<(), Fail> {
+    let mut lists = OrderList::<u8>::make(rt.alloc(), 1)?;
+    lists.reserve(rt.alloc(), 1)?;
+    let first = lists.push_back(0, 7);
+    *lists.item_mut(first) = 9;
+    lists.reserve(rt.alloc(), 3)?;
+    lists.push_back(0, 8);
+    assert_eq!(rt; digits(&lists, 0), 98);
+    assert!(rt; lists.spare() >= 2);
+    Ok(())
+}
+
+#[test]
 fn items_are_put_before_others_and_taken_from_anywhere(rt: HostRuntime) -> Result<(), Fail> {
     let mut lists = OrderList::<u8>::make(rt.alloc(), 2)?;
     lists.reserve(rt.alloc(), 5)?;
