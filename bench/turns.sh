@@ -196,8 +196,10 @@ use std::sync::Barrier;
 use std::sync::atomic::{AtomicU64, Ordering::SeqCst};
 use std::thread;
 
-const SPINS: u32 = 100;
-const YIELDS: u32 = 100;
+const NEAR: u64 = 3;
+const LOOKS: u32 = 2_000;
+const LOOKS_WOKEN: u32 = 400;
+const SPACES: u64 = 16;
 
 extern "C" {
     fn syscall(number: i64, ...) -> i64;
@@ -219,42 +221,66 @@ fn wake_all(word: *const u32) {
 struct Word(AtomicU64);
 
 #[derive(Default)]
+struct Space {
+    sleepers: AtomicU64,
+    wakes: AtomicU64,
+}
+
+impl Space {
+    fn wake(&self) {
+        if self.sleepers.load(SeqCst) > 0 {
+            self.wakes.fetch_add(1, SeqCst);
+            wake_all(self.wakes.as_ptr() as *const u32);
+        }
+    }
+}
+
+#[derive(Default)]
 struct Ticket {
     next: Word,
     served: Word,
-    sleepers: Word,
+    spaces: [Space; SPACES as usize],
     count: UnsafeCell<u64>,
 }
 
 unsafe impl Sync for Ticket {}
 
 impl Ticket {
+    fn space(&self, ticket: u64) -> &Space {
+        &self.spaces[(ticket % SPACES) as usize]
+    }
+
+    fn sleep(&self, ticket: u64, has_looked: bool) {
+        let space = self.space(ticket);
+        space.sleepers.fetch_add(1, SeqCst);
+        let wakes = space.wakes.load(SeqCst);
+        let before = ticket.wrapping_sub(self.served.0.load(SeqCst));
+        if before > 1 || (before == 1 && has_looked) {
+            park(space.wakes.as_ptr() as *const u32, wakes as u32);
+        }
+        space.sleepers.fetch_sub(1, SeqCst);
+    }
+
     fn turn(&self) {
         let ticket = self.next.0.fetch_add(1, SeqCst);
-        let mut looks = 0;
+        let mut looks = LOOKS;
         loop {
             let served = self.served.0.load(SeqCst);
             if served == ticket {
                 break;
             }
-            if looks < SPINS {
+            if looks > 0 && ticket - served <= NEAR {
+                looks -= 1;
                 spin_loop();
-            } else if looks < SPINS + YIELDS {
-                thread::yield_now();
             } else {
-                self.sleepers.0.fetch_add(1, SeqCst);
-                park(self.served.0.as_ptr() as *const u32, served as u32);
-                self.sleepers.0.fetch_sub(1, SeqCst);
-            }
-            if looks < SPINS + YIELDS {
-                looks += 1;
+                self.sleep(ticket, looks == 0);
+                looks = LOOKS_WOKEN;
             }
         }
         unsafe { *black_box(self.count.get()) += 1 };
-        self.served.0.fetch_add(1, SeqCst);
-        if self.sleepers.0.load(SeqCst) > 0 {
-            wake_all(self.served.0.as_ptr() as *const u32);
-        }
+        let served = self.served.0.fetch_add(1, SeqCst) + 1;
+        self.space(served).wake();
+        self.space(served + 1).wake();
     }
 }
 

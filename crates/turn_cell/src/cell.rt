@@ -3,6 +3,7 @@ ghost use Rattle.std.specs.Prelude.{◌≡◌, ℕ, ◌<◌, [], ◌∷◌, None
 ghost use Rattle.turn_cell.specs.Passes.{first_pass};
 
 use crate::TurnValue;
+use crate::lot::Lot;
 use crate::pass::{Numbers, Pass, Sight};
 use crate::plays::Turns;
 use crate::view::View;
@@ -10,7 +11,6 @@ use atomic_table::{Refused, Table};
 use std::alloc::{AllocFailed, Global};
 use std::marker::Model;
 use std::snapshot::Snapshot;
-use std::sync::atomic::AtomicU64;
 
 /// The word of the next ticket. Each word that is written has cache lines of its own.
 pub(crate) const TICKET: usize = 16;
@@ -27,8 +27,8 @@ const WORDS: usize = 64;
 #[derive(Drop)]
 pub struct TurnCell<V: TurnValue> {
     pub(crate) table: Table<Option<V>, View<V::Fixed>, (u16, Snapshot<V>), Turns<V>, Global>,
-    /// How many callers sleep or are about to. No contract speaks of it.
-    pub(crate) sleepers: AtomicU64,
+    /// Where callers sleep. No contract speaks of it.
+    pub(crate) lot: Lot,
 }
 
 impl<V: TurnValue> Model for TurnCell<V> {
@@ -74,7 +74,7 @@ impl<V: TurnValue> TurnCell<V> {
             Ok((table, seat)) => {
                 let cell = TurnCell {
                     table,
-                    sleepers: AtomicU64::new(0),
+                    lot: Lot::new(),
                 };
                 let numbers = Numbers {
                     caller: 1,

@@ -24,8 +24,8 @@ impl<V: TurnValue> TurnCell<V> {
             numbers: _,
             sight: _,
         } = pass;
-        let TurnCell { table, sleepers } = self;
-        drop(sleepers);
+        let TurnCell { table, lot } = self;
+        drop(lot);
         let mut closed = table.close_with(seat);
         let slot = closed.take(0);
         closed.free();

@@ -121,8 +121,8 @@ impl<V: TurnValue> TurnCell<V> {
         let sight = sight_of(&value);
         let numbers = numbers_after(numbers, &start, &sight);
         let added = sight.marks - start.marks;
-        self.put_back(&mut seat, value, added);
-        self.wake_sleepers();
+        let next = self.put_back(&mut seat, value, added);
+        self.lot.wake(next);
         Pass {
             seat,
             numbers,
@@ -130,8 +130,8 @@ impl<V: TurnValue> TurnCell<V> {
         }
     }
 
-    // Puts the value back, counts the marks that the turn has added to it, and serves the next ticket.
-    fn put_back(&self, seat: &mut Place<V>, value: V, added: u64)
+    // Puts the value back, counts the marks that the turn has added to it, and serves the next ticket, which it gives.
+    fn put_back(&self, seat: &mut Place<V>, value: V, added: u64) -> u64
         requires cell { seat.old.table_id ≡ self.now }
         requires turn { (seat.old.me.0.stage ≡ Ready) × (seat.old.me.1 ≡ (0, None) ∷ []) }
         requires fixed { Some (V.fixed value) ≡ seat.old.me.0.fixed }
@@ -147,7 +147,8 @@ impl<V: TurnValue> TurnCell<V> {
         let hole = self.table.shared.exchange(seat, 0, Some(value));
         let None = hole else { unreachable!() };
         self.table.shared.fetch_add::<Count<V>>(seat, MARKS, added);
-        self.table.shared.fetch_add::<Serve<V>>(seat, SERVED, 1);
+        let served = self.table.shared.fetch_add::<Serve<V>>(seat, SERVED, 1);
+        served.wrapping_add(1)
     }
 }
 

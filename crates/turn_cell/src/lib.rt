@@ -8,6 +8,7 @@ mod cell;
 mod end;
 mod enter;
 mod law;
+mod lot;
 mod pass;
 mod plays;
 mod share;

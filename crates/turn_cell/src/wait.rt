@@ -12,14 +12,17 @@ use crate::plays::Look;
 use crate::{TurnCell, TurnValue};
 use std::hint::spin_loop;
 use std::sync::Wait;
-use std::sync::atomic::Ordering::SeqCst;
 use std::thread::yield_now;
 
-/// So often a waiter looks before it yields to other threads.
-const SPINS: u32 = 100;
+/// A waiter looks while at most so many turns come before its own, and sleeps at once where more do.
+const NEAR: u64 = 3;
 
-/// So often it yields before it sleeps.
-const YIELDS: u32 = 100;
+/// So often it looks before it sleeps: some tens of microseconds, in which so few turns mostly end. It does not yield
+/// meanwhile. On a machine with other work each yield may cost a slice of time, and every ticket behind would wait for it.
+const LOOKS: u32 = 2_000;
+
+/// So often it looks when it was woken.
+const LOOKS_WOKEN: u32 = 400;
 
 impl<V: TurnValue> TurnCell<V> {
     // Looks until the ticket is served, and takes the turn.
@@ -31,41 +34,32 @@ impl<V: TurnValue> TurnCell<V> {
         ensures same { (seat.new.table_id ≡ seat.old.table_id) × (seat.new.id ≡ seat.old.id) }
         ensures takes { Takes (marks_by V.entries V.halt) V.fixed seat.old.me.0 (readied seat.old.me.0) seat.new.me }
     {
-        let mut looks = 0;
+        let mut looks = LOOKS;
         for _ in rt.forever() {
             let served = self.table.shared.load::<Look<V>>(seat, SERVED);
             if served == ticket {
                 return;
             }
-            self.pause(rt, served, looks);
-            if looks < SPINS + YIELDS {
-                looks += 1;
+            if looks > 0 && ticket.wrapping_sub(served) <= NEAR {
+                looks -= 1;
+                spin_loop();
+            } else {
+                self.sleep(rt, ticket, looks == 0);
+                looks = LOOKS_WOKEN;
             }
         }
         unreachable!()
     }
 
-    // Passes the time after so many looks: at first it only spins, then it yields, then it sleeps until another number is
-    // served. It counts as a sleeper before it sleeps, so that whoever serves the next number after that wakes it.
-    fn pause<R: Wait>(&self, rt: &R, served: u64, looks: u32) {
-        if looks < SPINS {
-            spin_loop();
-        } else if looks < SPINS + YIELDS {
-            yield_now();
-        } else {
-            self.sleepers.fetch_add(1, SeqCst);
-            self.table
-                .shared
-                .park(rt, SERVED, (served & 0xffff_ffff) as u32);
-            self.sleepers.fetch_sub(1, SeqCst);
+    // Sleeps until the ticket is next, or, where the waiter has looked for long, until it is served.
+    fn sleep<R: Wait>(&self, rt: &R, ticket: u64, has_looked: bool) {
+        let space = self.lot.space(ticket);
+        let wakes = space.come();
+        let before = ticket.wrapping_sub(self.table.shared.peek(SERVED));
+        if before > 1 || (before == 1 && has_looked) {
+            space.sleep(rt, wakes);
         }
-    }
-
-    // Wakes those that sleep. All sleep on one word, and only they know whose ticket it is.
-    pub(crate) fn wake_sleepers(&self) {
-        if self.sleepers.load(SeqCst) > 0 {
-            self.table.shared.wake_all(SERVED);
-        }
+        space.go();
     }
 }
 

@@ -18,8 +18,8 @@ fetch_add-requires g c =
           c.requires.turn.0 a.1 a.2 refl a.3 c.requires.short,
     )
 
-pub fetch_add-requires-2 : goal.fetch_add-requires-2
-fetch_add-requires-2 g c =
+pub fetch_add-served-requires : goal.fetch_add-served-requires
+fetch_add-served-requires g c =
     let v = c.args.seat.now.me.0 in let marks = marks_by g.V.TurnValue.entries g.V.TurnValue.halt in (
       search rules,
       search rules,
