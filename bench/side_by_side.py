@@ -6,11 +6,13 @@ ROOM/workloads has a line for each row: its name, and behind a tab the words. Ti
 in which the programs take turns; their output goes to /dev/null. Processor time is user and system time, with the start of
 the process. FIRST is a word: with `first` a column has the ratio of the processor time to that of the first row. With OTHER
 two more columns have its times and two the ratios to them; before that each program runs once, and what the two write and
-their exit statuses are compared: a difference is told, and the status is then 1.
+their exit statuses are compared: a difference is told, and the status is then 1. With `audited` the words are `run RULES ..`,
+whose reports may differ: each program audits its own instead.
 """
 import os, sys, time
 
 room, runs, to_first, programs = sys.argv[1], int(sys.argv[2]), sys.argv[3] == "first", sys.argv[4:]
+is_audited = sys.argv[3] == "audited"
 
 
 def run(program, words, out, err):
@@ -37,6 +39,13 @@ def answer(program, words):
     return status, whole(out), whole(err)
 
 
+def verdict(program, words):
+    """Returns what the program says of its own report: its statuses, and all that the audit writes."""
+    report, out, err = f"{room}/report", f"{room}/out", f"{room}/err"
+    ended = run(program, words, report, err)[0]
+    return (ended, run(program, ["audit", words[1], report], out, err)[0]), whole(out), whole(err)
+
+
 def best(words):
     """Returns the least processor and the least wall time of each program."""
     times = [[] for _ in programs]
@@ -56,9 +65,11 @@ has_other, differing, rows, first = len(programs) > 1, [], [], None
 with open(f"{room}/workloads") as it:
     workloads = [line.rstrip("\n").split("\t") for line in it]
 for name, *words in workloads:
-    answers = [answer(it, words) for it in programs]
-    for part, *both in zip(("status", "output", "error output"), *answers):
-        if both[0] != both[-1]:
+    answers = [verdict(it, words) if is_audited else answer(it, words) for it in programs]
+    if is_audited:
+        answers.append(((0, 0), b"yes\n", b""))
+    for part, *told in zip(("status", "output", "error output"), *answers):
+        if any(it != told[-1] for it in told):
             differing.append(f"{name}: {part}")
     times = best(words)
     first = first or times[0]
@@ -72,8 +83,10 @@ head = [f"ms, best of {runs}", "cpu", "wall", *["to the first"] * to_first]
 head += ["other cpu", "other wall", "cpu ratio", "wall ratio"] * has_other
 table(head, *rows)
 for it in differing:
-    print(f"side_by_side: the two programs differ in {it}", file=sys.stderr)
+    print(f"side_by_side: {'a report is not audited' if is_audited else 'the two programs differ'} in {it}", file=sys.stderr)
 if differing:
     sys.exit(1)
-if has_other:
+if is_audited:
+    print("Each report was audited.")
+elif has_other:
     print("Both programs gave the same bytes and statuses.")

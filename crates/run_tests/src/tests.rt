@@ -1,0 +1,11 @@
+mod call;
+mod counted;
+mod day;
+mod losses;
+mod made;
+mod meeting;
+mod refusals;
+mod report;
+mod samples;
+mod sinks;
+mod sixteen;
