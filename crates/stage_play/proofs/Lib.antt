@@ -1,4 +1,7 @@
 mod CatchLemmas
+mod MemberLemmas
+mod NoteLemmas
 mod PlayLemmas
+mod RoundLemmas
 mod SightLemmas
 mod UptoLemmas

@@ -17,6 +17,7 @@ use Rattle.gateway.proofs.Pairs.{pairs-head, pairs-tail}
 use Rattle.stage_law.specs.Come.{Cut, HasCome, HasSeenAll, IsBetween, answers_of, cut_at}
 use Rattle.stage_law.specs.Played.{deeds_at, lines_done}
 use Rattle.stage_law.proofs.Coming.{come_first, come_next}
+use Rattle.stage_play.specs.Blocks.{AllGoOn, HasComeTo, cut_of, next_cuts}
 use Rattle.stage_play.specs.Playing.{AllDone, HasDone, HasLevelled, HasRun, IsNew, IsReady, MayRun, desk_at}
 use Rattle.stage_play.proofs.SightLemmas.{within-sight}
 use Rattle.stage_play.specs.Seen.{CaughtUp, HasTold, seen_by}
@@ -99,13 +100,6 @@ all-filtered P p (x ∷ xs) all = by (p x) (all-filtered P p xs (All-tail P x xs
 pub record IsWithin (sight : Sight) (d : DeskState) : Type 0 where
   pub seen : d.seen ≤ sight.seen
   pub ended : d.ended ≡ true → sight.halted ≡ true
-
--- where a stage of an issue begins, by what all desks have seen
-abbrev pub cut_of : Sight → Cut
-cut_of s = record { length = s.seen; halted = s.halted }
-
-abbrev pub next_cuts : (ℕ → ℕ → Cut) → ℕ → List Sight → ℕ → ℕ → Cut
-next_cuts cuts stage sights issue = cut_at (cuts issue) (stage + 1) (cut_of (slice_index_or sights issue (record { seen = 0; halted = false })))
 
 module _ {D F : Type 0} (state : D → DeskState) (fixed : D → F) (caller : F → ℕ) (takes : F → Event → Type 0) (tells : D → Board → ℕ → Type 0) where
   -- a desk that has caught up has seen all
@@ -240,22 +234,23 @@ module _ {D F : Type 0} (state : D → DeskState) (fixed : D → F) (caller : F 
         come_first old.gateway.caller.0 (no_cuts issue) (state (desk_at old issue d)) (tells (desk_at old issue d)) new.told.board new.made new.stop refl refl new.told.length_is new.told.told;
   }
 
-  -- all gateways before the first stage, and a stage more
+  -- all gateways before the first stage
   pub all-nothing : (issues stages : ℕ) (olds : List (Part D)) → ((k : ℕ) (p : Part D) → k < length olds → IsReady state fixed caller takes tells issues stages (slice_index_or olds k p))
       → AllDone state fixed caller takes tells issues 0 no_cuts olds olds
   all-nothing issues stages olds ready = λ k p within. done-nothing issues stages (slice_index_or olds k p) (ready k p within)
 
-  pub all-more : (issues stages stage : ℕ) (cuts : ℕ → ℕ → Cut) (sights : List Sight) (olds ps qs rs : List (Part D)) → length ps ≡ length olds → length qs ≡ length ps
-      → ((k : ℕ) (p : Part D) → k < length olds → IsReady state fixed caller takes tells issues stages (slice_index_or olds k p)) → AllDone state fixed caller takes tells issues stage cuts olds ps
+  -- a stage that all have done
+  pub all-step : (issues stage : ℕ) (sights : List Sight) (ps qs rs : List (Part D)) → length qs ≡ length ps
       → ((k : ℕ) (p : Part D) → k < length ps → HasRun state fixed tells stage (slice_index_or ps k p) (slice_index_or qs k p))
       → ((issue : ℕ) (s : Sight) (d : D) → issue < issues → slice_index_or sights issue s ≡ seen_by (map (λ (p : Part D). state (desk_at p issue d)) qs))
       → ((k : ℕ) (p : Part D) → k < length qs → HasLevelled state fixed caller takes tells sights (slice_index_or qs k p) (slice_index_or rs k p))
-      → AllDone state fixed caller takes tells issues (stage + 1) (next_cuts cuts stage sights) olds rs
-  all-more issues stages stage cuts sights olds ps qs rs first second ready done runs looks levels = λ k p within.
-      let there : k < length ps = subst (λ (n : ℕ). k < n) (sym first) within in
-      let behind : k < length qs = subst (λ (n : ℕ). k < n) (sym second) there in
-      done-more issues stages stage cuts sights (slice_index_or olds k p) (slice_index_or ps k p) (slice_index_or qs k p) (slice_index_or rs k p) (ready k p within) (done k p within) (runs k p there) (levels k p behind)
-      (λ issue d here. seen-within k p behind issue d here)
+      → AllGoOn state fixed caller takes tells issues stage 1 (λ cuts. next_cuts cuts stage sights) ps rs
+  all-step issues stage sights ps qs rs same runs looks levels = λ k p within.
+      let behind : k < length qs = subst (λ (n : ℕ). k < n) (sym same) within in
+      record {
+        to = λ old stages cuts ready done.
+            done-more issues stages stage cuts sights old (slice_index_or ps k p) (slice_index_or qs k p) (slice_index_or rs k p) ready done (runs k p within) (levels k p behind) (λ issue d here. seen-within k p behind issue d here);
+      }
     where
       none : Sight
       none = record { seen = 0; halted = false }
@@ -265,8 +260,27 @@ module _ {D F : Type 0} (state : D → DeskState) (fixed : D → F) (caller : F 
           let by = within-sight (λ (q : Part D). state (desk_at q issue d)) qs k p behind in
           subst (λ (s : Sight). IsWithin s (state (desk_at (slice_index_or qs k p) issue d))) (sym (looks issue none d here)) (record { seen = by.0; ended = by.1 })
 
-  -- the desks of a gateway that did its lines are as many as they were
-  pub as-many : (issues stage n : ℕ) (cuts : ℕ → ℕ → Cut) (olds ps qs : List (Part D)) → length ps ≡ length olds → n ≡ issues → AllDone state fixed caller takes tells issues stage cuts olds ps
-      → ((k : ℕ) (p : Part D) → k < length ps → HasRun state fixed tells stage (slice_index_or ps k p) (slice_index_or qs k p)) → (k : ℕ) (p : Part D) → k < length ps → n ≡ length (slice_index_or qs k p).desks.items
-  as-many issues stage n cuts olds ps qs first same done runs k p there =
-      same ∙ sym ((runs k p there).ran.did.each ∙ (done k p (subst (λ (m : ℕ). k < m) first there)).desks)
+  -- a gateway that has come to a stage may do its lines of it
+  pub may-play : (issues stage : ℕ) (ps : List (Part D)) → All (HasComeTo state fixed caller takes tells issues stage) ps → All (λ (p : Part D). MayRun takes fixed stage p) ps
+  may-play issues stage ps come = λ k p within. let one = come k p within in may-run issues one.stages stage one.cuts one.old (slice_index_or ps k p) one.ready one.done
+
+  -- the desks of gateways that did their lines are as many as they were
+  pub as-many : (issues stage n : ℕ) (ps qs : List (Part D)) → length qs ≡ length ps → n ≡ issues → All (HasComeTo state fixed caller takes tells issues stage) ps
+      → ((k : ℕ) (p : Part D) → k < length ps → HasRun state fixed tells stage (slice_index_or ps k p) (slice_index_or qs k p)) → All (λ (p : Part D). n ≡ length p.desks.items) qs
+  as-many issues stage n ps qs many same come runs = λ k p within.
+      let there : k < length ps = subst (λ (m : ℕ). k < m) many within in
+      same ∙ sym ((runs k p there).ran.did.each ∙ (come k p there).done.desks)
+
+  -- where gateways are that have done the stages before this one, and where they go
+  pub all-come : (issues stages stage : ℕ) (cuts : ℕ → ℕ → Cut) (olds ps : List (Part D)) → length ps ≡ length olds
+      → ((k : ℕ) (p : Part D) → k < length olds → IsReady state fixed caller takes tells issues stages (slice_index_or olds k p)) → AllDone state fixed caller takes tells issues stage cuts olds ps
+      → All (HasComeTo state fixed caller takes tells issues stage) ps
+  all-come issues stages stage cuts olds ps many ready done = λ k p within.
+      let there : k < length olds = subst (λ (n : ℕ). k < n) many within in
+      record { old = slice_index_or olds k p; stages = stages; cuts = cuts; ready = ready k p there; done = done k p there }
+
+  pub all-on : (issues stages stage count : ℕ) (cuts : ℕ → ℕ → Cut) (then : (ℕ → ℕ → Cut) → ℕ → ℕ → Cut) (olds ps rs : List (Part D)) → length ps ≡ length olds
+      → ((k : ℕ) (p : Part D) → k < length olds → IsReady state fixed caller takes tells issues stages (slice_index_or olds k p)) → AllDone state fixed caller takes tells issues stage cuts olds ps
+      → AllGoOn state fixed caller takes tells issues stage count then ps rs → AllDone state fixed caller takes tells issues (stage + count) (then cuts) olds rs
+  all-on issues stages stage count cuts then olds ps rs many ready done on = λ k p within.
+      (on k p (subst (λ (n : ℕ). k < n) (sym many) within)).to (slice_index_or olds k p) stages cuts (ready k p within) (done k p within)

@@ -58,7 +58,7 @@ fn catch_up_each<W: Wait, D: SeenDesk>(rt: &W, desks: &mut [D], sights: &[Sight]
 }
 
 // The desks of a gateway catch up.
-fn level_part<W: Wait, D: SeenDesk>(rt: &W, part: &mut Part<D>, sights: &[Sight])
+pub(crate) fn level_part<W: Wait, D: SeenDesk>(rt: &W, part: &mut Part<D>, sights: &[Sight])
     requires { length sights.now ≡ length part.old.desks.items }
     ensures { HasLevelled D.state D.fixed D.caller D.takes D.tells sights.now part.old part.new }
 {

@@ -45,11 +45,11 @@ fn play_at_desks<T: Threads + Wait + Sync, N: MemoryNode + Send, G: Gate + Sync>
     ensures { IfOk result (λ _. (participants : ℕ) (issues : List IssueNow) → AreServed (length gateways.items) issues servers.now passes.items
         → AreLinesFor participants script.now.stages script.now.lines issues → WereAtDesks script.now (length gateways.items) issues servers.now back.new.items met.new.items) }
 {
-    let mut parts = match seat_all(alloc, servers, passes, gateways) {
+    let parts = match seat_all(alloc, servers, passes, gateways) {
         Ok(parts) => parts,
         Err(SeatFault::Memory) => return Err(RunFault::Memory),
     };
-    play_stages(rt, parts.as_mut_slice(), script.stages, sights, gate);
+    let parts = play_stages(rt, alloc, parts, script.stages, sights, gate);
     meet_all(servers, parts, back, met);
     Ok(())
 }

@@ -1,4 +1,3 @@
-use Rattle.std.proofs.Common.{rules}
 use Rattle.stage_play.proofs.CatchLemmas.{HasShown}
 use Rattle.stage_play.proofs.seen.catch_up.Given as goal
 

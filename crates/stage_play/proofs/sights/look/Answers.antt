@@ -1,8 +1,4 @@
-use Rattle.std.proofs.Common.{◌≡◌, ℕ, List, map, arith}
-use Rattle.stage_play.specs.Seen.{seen_by}
-use Rattle.stage_play.specs.Playing.{desk_at}
-use Rattle.stage_play.specs.declared.part.Part.{Part}
-use Rattle.stage_play.specs.declared.seen.Sight.{Sight}
+use Rattle.std.proofs.Common.{arith}
 use Rattle.stage_play.proofs.UptoLemmas.{upto-first, upto-more}
 use Rattle.stage_play.proofs.sights.look.Goals as goal
 

@@ -1,4 +1,4 @@
-use Rattle.std.proofs.Common.{◌≡◌, ℕ, List, map}
+use Rattle.std.proofs.Common.{◌≡◌, ℕ, map}
 use Rattle.stage_play.specs.Seen.{seen_by}
 use Rattle.stage_play.specs.Playing.{desk_at}
 use Rattle.stage_play.specs.declared.part.Part.{Part}
