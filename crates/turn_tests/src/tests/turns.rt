@@ -69,8 +69,8 @@ fn journal_of<R: Threads + Wait + Sync>(
 
 #[test]
 fn every_turn_is_there_once_and_in_its_callers_order(rt: HostRuntime) -> Result<(), Fail> {
-    // Callers on fewer processors, so that they spin, sleep and are woken. A busy machine takes seconds for it.
-    for (callers, turns) in [(1, 100_000), (2, 100_000), (4, 25_000), (16, 10_000)] {
+    // A million turns of 16 callers on few processors, so that they look, sleep and are woken.
+    for (callers, turns) in [(1, 100_000), (2, 100_000), (4, 50_000), (16, 31_250)] {
         let Some(journal) = journal_of(&rt, rt.alloc(), callers, turns) else {
             panic!(rt; "memory")
         };
