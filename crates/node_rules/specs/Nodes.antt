@@ -1,5 +1,5 @@
 -- The states of an issue's three memory nodes, and how the events of its journal move them.
-use Rattle.std.specs.Prelude.{◌≡◌, ℕ, ◌+◌, ◌==◌, ◌<◌, Bool, true, false, ◌&&◌, ◌||◌, not, List, [], ◌∷◌, Option, None, Some, if◌then◌else◌, nat_lt, slice_index_or, slice_set}
+use Rattle.std.specs.Prelude.{◌≡◌, ℕ, ◌+◌, ◌==◌, ◌<◌, Bool, true, false, ◌||◌, not, List, [], ◌∷◌, Option, None, Some, if◌then◌else◌, nat_lt, slice_index_or, slice_set}
 use Rattle.mkt_base.specs.declared.event.Event.{Event}
 use Rattle.mkt_base.specs.declared.event.Event.TheVariants as events
 use Rattle.mkt_base.specs.declared.journal.NodeState.{NodeState}
@@ -20,6 +20,11 @@ abbrev pub is_synchronised : NodeState → Bool
 is_synchronised Lost = false
 is_synchronised (Joining n) = false
 is_synchronised Synchronised = true
+
+abbrev pub is_joining : NodeState → Bool
+is_joining Lost = false
+is_joining (Joining n) = true
+is_joining Synchronised = false
 
 -- some node is synchronised
 abbrev pub has_synchronised : List NodeState → Bool
@@ -58,6 +63,12 @@ abbrev pub crashes : Event → ℕ → Bool
 crashes (events.Crash node) k = node == k
 crashes event k = false
 
+-- the event is a crash or a rejoin
+abbrev pub is_of_node : Event → Bool
+is_of_node (events.Crash node) = true
+is_of_node (events.Rejoin node) = true
+is_of_node event = false
+
 -- each joining node takes a piece of the journal so far, but for one that the event crashes
 abbrev pub caught_at : Event → ℕ → ℕ → NodeState → NodeState
 caught_at event entries k s = if crashes event k then s else caught piece entries s
@@ -85,6 +96,10 @@ joined entries (Some k) nodes = slice_set nodes k (caught piece entries (Joining
 
 unfoldable pub after_event : Event → ℕ → List NodeState → List NodeState
 after_event event entries nodes = joined (entries + 1) (joins event nodes) (crashed event nodes)
+
+-- an entry with this event moves no node of these states
+abbrev pub moves_none : Event → List NodeState → Bool
+moves_none event nodes = not (is_of_node event || is_joining (state_at nodes 0) || is_joining (state_at nodes 1) || is_joining (state_at nodes 2))
 
 -- the states after an entry behind so many: at an entry of a gateway the joining nodes catch up first
 unfoldable pub node_step : ℕ → ℕ → Event → List NodeState → List NodeState

@@ -1,6 +1,6 @@
 // How the events of a journal move the states of its nodes.
 ghost use Rattle.std.specs.Prelude.{◌≡◌, ◌+◌, ◌<◌, ◌≤◌, ◌^◌};
-ghost use Rattle.node_rules.specs.Nodes.{after_event, all_caught, caught, caught_at, crashed, crashes, has_synchronised, is_lost, is_synchronised, joined, joins, node_step, piece, up, up_in};
+ghost use Rattle.node_rules.specs.Nodes.{after_event, all_caught, caught, caught_at, crashed, crashes, has_synchronised, is_joining, is_lost, is_of_node, is_synchronised, joined, joins, moves_none, node_step, piece, up, up_in};
 
 use mkt_base::{Caller, Event, NodeNo, NodeState};
 
@@ -41,6 +41,15 @@ pub fn up(nodes: [NodeState; 3]) -> u64
     up_in(nodes[0]) + up_in(nodes[1]) + up_in(nodes[2])
 }
 
+fn is_joining(state: NodeState) -> bool
+    ensures { result ≡ is_joining state }
+{
+    match state {
+        NodeState::Joining(_) => true,
+        NodeState::Lost | NodeState::Synchronised => false,
+    }
+}
+
 // The state of a joining node after a piece more.
 fn caught(entries: u64, state: NodeState) -> NodeState
     ensures { result ≡ caught 64 entries state }
@@ -64,6 +73,16 @@ pub fn crashes(event: &Event, k: u8) -> bool
 {
     match event {
         Event::Crash { node } => node.n() == k,
+        _ => false,
+    }
+}
+
+// Whether an event is a crash or a rejoin.
+fn is_of_node(event: &Event) -> bool
+    ensures { result ≡ is_of_node event.now }
+{
+    match event {
+        Event::Crash { .. } | Event::Rejoin { .. } => true,
         _ => false,
     }
 }
@@ -133,6 +152,13 @@ fn after_event(event: &Event, entries: u64, nodes: [NodeState; 3]) -> [NodeState
     joined(entries + 1, joins(event, nodes), crashed(event, nodes))
 }
 
+// Whether an event is no crash and no rejoin, and no node copies records.
+fn moves_none(event: &Event, nodes: [NodeState; 3]) -> bool
+    ensures { result ≡ moves_none event.now nodes }
+{
+    !(is_of_node(event) || is_joining(nodes[0]) || is_joining(nodes[1]) || is_joining(nodes[2]))
+}
+
 /// The states of the nodes after an entry that stands behind so many. At an entry of a gateway each joining node first copies a
 /// piece of the journal so far, but for one that the entry's event crashes. A crash makes its node lost; a rejoin of a lost node
 /// lets it join with the first piece, its own entry included. A node that then has all records is synchronised.
@@ -148,6 +174,9 @@ pub fn node_step(
 {
     if caller.0 == 0 {
         after_event(event, entries, nodes)
+    } else if moves_none(event, nodes) {
+        // (so does almost every entry)
+        [nodes[0], nodes[1], nodes[2]]
     } else {
         after_event(event, entries, all_caught(event, entries, nodes))
     }

@@ -35,6 +35,8 @@ pub enum GridFault {
 #[derive(Debug, Drop)]
 pub struct Grid {
     prices: Vec<Price>,
+    // From the first price to the second, by which the position of a price is guessed; 0 where there is one price.
+    tick: u32,
 }
 
 impl Model for Grid {
@@ -76,7 +78,8 @@ impl Grid {
         let prices = list_on_tick(alloc, ticks, low.0, high.0, count as usize).map_err(
             |_| GridFault::Memory,
         )?;
-        Ok(Grid { prices })
+        let tick = first_tick(prices.as_slice());
+        Ok(Grid { prices, tick })
     }
 
     /// What holds of every grid, for those who hold one.
@@ -117,10 +120,36 @@ impl Grid {
         ensures within { IfSome result (λ i. i < length self.now) }
     {
         self.stands();
+        match self.guess(p) {
+            Some(i) => Some(i),
+            None => self.searched(p),
+        }
+    }
+
+    // The same, by a search.
+    fn searched(&self, p: Price) -> Option<u32>
+        ensures exact { result ≡ index_of self.now p.0 }
+        ensures within { IfSome result (λ i. i < length self.now) }
+    {
+        self.stands();
         let Some(i) = self.floor(p) else {
             return None;
         };
         if self.price(i) == p { Some(i) } else { None }
+    }
+
+    // The position of a price, where all prices up to it rise by the first tick.
+    fn guess(&self, p: Price) -> Option<u32>
+        ensures { IfSome result (λ i. (i < length self.now) × (price_at self.now i ≡ p.0)) }
+    {
+        self.stands();
+        let first = self.price(0);
+        let i = p.0.wrapping_sub(first.0).checked_div(self.tick)?;
+        if i < self.size() && self.price(i) == p {
+            Some(i)
+        } else {
+            None
+        }
     }
 
     /// The position of the greatest price that is not above `p`; none where all are.
@@ -149,6 +178,14 @@ impl Grid {
         } else {
             None
         }
+    }
+}
+
+// From the first price to the second; 0 where there is no second.
+fn first_tick(prices: &[Price]) -> u32 {
+    match prices {
+        [first, second, ..] => second.0.wrapping_sub(first.0),
+        _ => 0,
     }
 }
 
