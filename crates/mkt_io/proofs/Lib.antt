@@ -14,3 +14,4 @@ pub mod SideLemmas
 pub mod TextLemmas
 pub mod TimeLemmas
 pub mod WordLemmas
+mod PairLemmas

@@ -1,11 +1,15 @@
 // The texts of numbers and of moments, and copies of short texts.
-ghost use Rattle.std.specs.Prelude.{◌≡◌, ◌+◌, ◌≤◌, ◌<◌, length};
+ghost use Rattle.std.specs.Prelude.{◌≡◌, ◌+◌, ◌/◌, ◌%◌, ◌≤◌, ◌<◌, length};
 ghost use Rattle.std.specs.Fmt.{decimal};
 ghost use Rattle.mkt_base.specs.Text.{time_text};
 ghost use Rattle.mkt_io.specs.declared.text.TheConstants.{DIGITS};
 
 /// How many digits a number has at most.
 pub(crate) const DIGITS: usize = 20;
+
+// The digits of each number below 100, as two digits.
+const PAIRS: &[u8; 200] =
+    b"00010203040506070809101112131415161718192021222324252627282930313233343536373839404142434445464748495051525354555657585960616263646566676869707172737475767778798081828384858687888990919293949596979899";
 
 // How many digits a number has. Four of them are counted at a time, since a division costs most.
 #[inline]
@@ -51,16 +55,32 @@ pub(crate) fn write_decimal(n: u64, out: &mut [u8])
         let pair = (rest % 100) as u32;
         rest /= 100;
         at -= 2;
-        out[at] = digit(pair / 10);
-        out[at + 1] = digit(pair % 10);
+        out[at] = tens(pair);
+        out[at + 1] = ones(pair);
     }
     let last = rest as u32;
     if last >= 10 {
-        out[0] = digit(last / 10);
-        out[1] = digit(last % 10);
+        out[0] = tens(last);
+        out[1] = ones(last);
     } else {
         out[0] = digit(last);
     }
+}
+
+#[inline(always)]
+fn tens(n: u32) -> u8
+    requires { n < 100 }
+    ensures { result ≡ 48 + n / 10 }
+{
+    PAIRS[2 * n as usize]
+}
+
+#[inline(always)]
+fn ones(n: u32) -> u8
+    requires { n < 100 }
+    ensures { result ≡ 48 + n % 10 }
+{
+    PAIRS[2 * n as usize + 1]
 }
 
 #[inline]
@@ -93,7 +113,7 @@ pub(crate) fn moment_text(ms: u32) -> [u8; 12]
     ]
 }
 
-// Copies a text. One of 4 to 16 bytes is copied by two pieces of a constant length, which may overlap: that is
+// Copies a text. One of 2 to 16 bytes is copied by two pieces of a constant length, which may overlap: that is
 // faster than a copy whose length the compiler does not know.
 #[inline(always)]
 pub(crate) fn copy_text(out: &mut [u8], text: &[u8])
@@ -109,18 +129,10 @@ pub(crate) fn copy_text(out: &mut [u8], text: &[u8])
     } else if n >= 4 {
         out[..4].copy_from_slice(&text[..4]);
         out[n - 4..].copy_from_slice(&text[n - 4..]);
-    } else {
-        copy_bytes(out, text);
-    }
-}
-
-// Copies a text byte by byte.
-#[inline(always)]
-fn copy_bytes(out: &mut [u8], text: &[u8])
-    requires { length out.old ≡ length text.now }
-    ensures { out.new ≡ text.now }
-{
-    for i in 0..text.len() {
-        out[i] = text[i];
+    } else if n >= 2 {
+        out[..2].copy_from_slice(&text[..2]);
+        out[n - 2..].copy_from_slice(&text[n - 2..]);
+    } else if n == 1 {
+        out[0] = text[0];
     }
 }

@@ -21,7 +21,7 @@ loop-rest-preserved c =
     record {
       left = omega (arith, pair, l.invariant.left);
       within = simp length-set (omega (arith, l.invariant.within));
-      written = rw (c.digit.ensures, c.digit-in-loop-rest.ensures) (pair-written c.args.n l.rest l.at l.out (omega arith) (omega arith) l.invariant.left l.invariant.within l.invariant.written);
+      written = rw (c.tens.ensures, c.ones.ensures) (pair-written c.args.n l.rest l.at l.out (omega arith) (omega arith) l.invariant.left l.invariant.within l.invariant.written);
     }
 
 pub bounds-out-0 : goal.bounds-out-0
@@ -43,7 +43,7 @@ pub returns-then-last-ge10 : goal.returns-then-last-ge10
 returns-then-last-ge10 c =
     let l = c.loop-rest in
     let two : l.at ≡ 2 = omega (arith, length-decimal-2 l.rest (omega arith) (omega arith), l.invariant.left) in
-    rw (c.digit-then-last-ge10.ensures, c.digit-then-last-ge10-2.ensures) (
+    rw (c.tens-then-last-ge10.ensures, c.ones-then-last-ge10.ensures) (
     two-written c.args.n l.rest l.out (omega arith) (omega arith) (omega (arith, two, l.invariant.within)) (ap (λ k. decimal l.rest ++ drop k l.out) (sym two) ∙ l.invariant.written)
     )
 
@@ -51,6 +51,6 @@ pub returns-else-last-ge10 : goal.returns-else-last-ge10
 returns-else-last-ge10 c =
     let l = c.loop-rest in
     let one : l.at ≡ 1 = omega (arith, length-decimal-1 l.rest (omega arith), l.invariant.left) in
-    rw c.digit-else-last-ge10.ensures (
+    rw c.digit.ensures (
     first-written c.args.n l.rest l.out (omega arith) (omega (arith, one, l.invariant.within)) (ap (λ k. decimal l.rest ++ drop k l.out) (sym one) ∙ l.invariant.written)
     )
