@@ -1,7 +1,9 @@
 // The commands over a script that is made of a number: `gen` prints it, and `replay --gen` tells the sums of its replay.
-ghost use Rattle.std.specs.Prelude.{◌≡◌, Some, Contains};
+ghost use Rattle.std.specs.Prelude.{◌≡◌, Some, Contains, IfOk};
 ghost use Rattle.memory_node.specs.declared.node.Label.{Label};
+ghost use Rattle.script_file.specs.Faults.{Gives};
 ghost use Rattle.script_file.specs.Generated.{generated};
+ghost use Rattle.script_file.specs.Script.{IsScript, script_of};
 ghost use Rattle.rules_file.specs.Rules.{IsRules};
 ghost use Rattle.market_top.specs.Command.{replay_made};
 ghost use Rattle.market_top.specs.Made.{IsMadeUnder};
@@ -16,7 +18,7 @@ use crate::replay::report_script;
 use memory_node::Rack;
 use mkt_io::{Shelf, Sink, WriteFault, read_whole};
 use rules_file::{Rules, read_rules};
-use script_file::{GenFault, generate, read_script, write_generated};
+use script_file::{GenFault, Script, ScriptFault, generate, read_script, write_generated};
 use std::alloc::Global;
 
 // Prints the script that is made of a number, and answers 0, or 4 where that fails.
@@ -71,12 +73,26 @@ fn made_under<O: Sink, E: Sink, R: Rack>(
     ensures { (v : Verdict) × IsMadeUnder (R.is_out rack.new) (R.given rack.new) number orders rules.now v
         × Delivered O.contents O.faults E.contents E.faults v out.old err.old out.new err.new result.0 }
 {
-    let bytes = match generate(alloc, number, orders) {
-        Ok(bytes) => bytes,
-        Err(GenFault::Memory) => return tell(err, "memory\n", Status::NO_MEMORY),
-    };
-    match read_script(alloc, &bytes, rules) {
+    match script_made(alloc, number, orders, rules) {
         Ok(script) => report_script(alloc, rules, &script, Extent::Totals, out, err, rack),
         Err(fault) => tell_no_script(err, fault),
     }
+}
+
+// The script that is made of a number, as rules read it. Its text is let go before it is replayed.
+fn script_made(
+    alloc: Global,
+    number: u32,
+    orders: u32,
+    rules: &Rules,
+) -> Result<Script, ScriptFault>
+    requires rules { IsRules rules.now }
+    ensures exact { Gives result (script_of rules.now (generated number orders)) }
+    ensures sound { IfOk result (IsScript rules.now) }
+{
+    let bytes = match generate(alloc, number, orders) {
+        Ok(bytes) => bytes,
+        Err(GenFault::Memory) => return Err(ScriptFault::Memory),
+    };
+    read_script(alloc, &bytes, rules)
 }
