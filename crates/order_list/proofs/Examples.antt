@@ -2,7 +2,8 @@
 use Rattle.std.specs.Prelude.{◌≡◌, ℕ, List, [], ◌∷◌, Some, None, refl}
 use Rattle.std.proofs.Common.{lit<}
 use Rattle.std.specs.List.{after_first}
-use Rattle.order_list.specs.Key.{key_of, link_of}
+use Rattle.order_list.specs.Key.{beside_of, bits_of}
+use Rattle.order_list.specs.declared.link.Beside.TheVariants.{Neighbour, End}
 use Rattle.order_list.specs.Lists.{IsIn, Linked, first_link, is_at, list_at, with_before, with_item, with_last, without}
 
 abbrev node : ℕ → ℕ → Linked ℕ
@@ -42,8 +43,11 @@ changed_in_its_place = refl
 names_its_item : IsIn two 1 0 8
 names_its_item = record { within = lit< tt; found = refl }
 
-no_key_is_none : link_of 4294967295 ≡ None
-no_key_is_none = refl
+the_greatest_link : beside_of 2147483647 ≡ Neighbour 2147483647
+the_greatest_link = refl
 
-none_and_back : key_of (link_of 3) ≡ 3
-none_and_back = refl
+the_first_list : beside_of 2147483648 ≡ End 0
+the_first_list = refl
+
+a_list_and_back : beside_of (bits_of (End 3)) ≡ End 3
+a_list_and_back = refl

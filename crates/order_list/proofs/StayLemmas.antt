@@ -6,7 +6,7 @@ use Rattle.std.proofs.lemmas.List.{get_or-map, get_or-set_other, get_or-set_same
 use Rattle.order_list.specs.Lists.{IsIn, IsLive, Linked, OthersStay, Stay, first_link, is_at, item_at, list_at, put_before, with_before, with_item, with_last, without}
 use Rattle.order_list.specs.Links.{AreApart, IsAbsent}
 use Rattle.std.specs.Option.{IfSome}
-use Rattle.order_list.proofs.SegmentLemmas.{absent-append, key-is}
+use Rattle.order_list.proofs.SegmentLemmas.{absent-append, link-is}
 use Rattle.order_list.proofs.ListLemmas.{find-absent, find-at, find-filter, find-front, find-gone, find-item_at, find-new, find-put_before}
 
 -- a fact of what an option holds, if it holds something
@@ -94,12 +94,12 @@ module _ {T : Type 0} where
       → (item : T) × (find (is_at link) nodes ≡ Some (record { link = link; item = item }))
   live-first [] link first = let none : None ≡ Some link = first in absurd (cc)
   live-first (n ∷ nodes) link first =
-      let same : n.link ≡ link = key-is first in
+      let same : n.link ≡ link = link-is first in
       (n.item, subst (λ k. find (is_at k) (n ∷ nodes) ≡ Some (record { link = k; item = n.item })) same (ap (λ b. cond b (Some n) (find (is_at n.link) nodes)) (eq-eqb n.link n.link refl)))
 
   first-absent : (nodes : List (Linked T)) (link other : ℕ) → first_link nodes ≡ Some link → IsAbsent other nodes → link ≢ other
   first-absent [] link other first absent = let none : None ≡ Some link = first in absurd (cc)
-  first-absent (n ∷ nodes) link other first absent = λ same. absent.0 (key-is first ∙ same)
+  first-absent (n ∷ nodes) link other first absent = λ same. absent.0 (link-is first ∙ same)
 
   -- so is the one after another
   pub live-after : (xs : List (Linked T)) (here : Linked T) (ys : List (Linked T)) (link : ℕ) → AreApart (xs ++ here ∷ ys) → first_link ys ≡ Some link

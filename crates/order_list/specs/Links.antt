@@ -2,26 +2,33 @@
 use Rattle.std.specs.Prelude.{◌≡◌, ◌≢◌, ℕ, zero, suc, ◌+◌, ◌-◌, ◌<◌, ◌≤◌, List, [], ◌∷◌, length, map, Option, Some, None, option_map, slice_index_or, slice_set, sum_by, unwrap_or}
 use Rattle.slab.specs.Slab.{HasRoomFor, Slab, get, slab_len}
 use Rattle.order_list.specs.Lists.{Linked, Lists, list_at}
+use Rattle.order_list.specs.declared.link.Beside.{Beside}
+use Rattle.order_list.specs.declared.link.Beside.TheVariants.{Neighbour, End}
 use Rattle.order_list.specs.declared.node.Node.{Node}
 use Rattle.order_list.specs.declared.node.Ends.{Ends}
 
 -- the ends of an empty list
-abbrev pub no_ends : Ends
-no_ends = record { first = None; last = None }
+abbrev pub no_ends : ℕ → Ends
+no_ends list = record { first = End list; last = End list }
 
 abbrev pub end_at : List Ends → ℕ → Ends
-end_at ends list = slice_index_or ends list no_ends
+end_at ends list = slice_index_or ends list (no_ends list)
+
+-- the ends of so many empty lists
+pub record AreEmpty (lists : ℕ) (ends : List Ends) : Type 0 where
+  pub count : length ends ≡ lists
+  pub each : (list : ℕ) → list < lists → end_at ends list ≡ no_ends list
 
 module _ {T : Type 0} where
   -- a walk from `at`, before which `before` stands, over the nodes of a list gives these items; it ends with `last`, which
   -- `after` follows
-  abbrev pub IsSegment : (ℕ → Option (Node T)) → ℕ → Option ℕ → Option ℕ → List (Linked T) → Option ℕ → Option ℕ → Type 0
-  IsSegment cells list before at [] last after = (last ≡ before) × (at ≡ after)
-  IsSegment cells list before at (node ∷ nodes) last after =
-      (at ≡ Some node.link)
-      × ((next : Option ℕ)
-      × (cells node.link ≡ Some (record { list = list; before = before; after = next; item = node.item }))
-      × IsSegment cells list (Some node.link) next nodes last after)
+  abbrev pub IsSegment : (ℕ → Option (Node T)) → Beside → Beside → List (Linked T) → Beside → Beside → Type 0
+  IsSegment cells before at [] last after = (last ≡ before) × (at ≡ after)
+  IsSegment cells before at (node ∷ nodes) last after =
+      (at ≡ Neighbour node.link)
+      × ((next : Beside)
+      × (cells node.link ≡ Some (record { before = before; after = next; item = node.item }))
+      × IsSegment cells (Neighbour node.link) next nodes last after)
 
   -- none of these has the link
   abbrev pub IsAbsent : ℕ → List (Linked T) → Type 0
@@ -33,18 +40,18 @@ module _ {T : Type 0} where
   AreApart [] = Unit {0}
   AreApart (node ∷ nodes) = IsAbsent node.link nodes × AreApart nodes
 
-  -- each list is walked from its first to its last node
+  -- each list is walked from its first to its last node, before and after which the list ends
   pub record AreLinked (cells : ℕ → Option (Node T)) (ends : List Ends) (lists : List (List (Linked T))) : Type 0 where
     pub same : length ends ≡ length lists
     pub each : (list : ℕ) → list < length lists
-        → IsSegment cells list None (end_at ends list).first (list_at lists list) (end_at ends list).last None
+        → IsSegment cells (End list) (end_at ends list).first (list_at lists list) (end_at ends list).last (End list)
     pub apart : (list : ℕ) → AreApart (list_at lists list)
 
   -- at most so many items on the way from a link
-  abbrev pub walk_from : (ℕ → Option (Node T)) → ℕ → Option ℕ → List (Linked T)
+  abbrev pub walk_from : (ℕ → Option (Node T)) → ℕ → Beside → List (Linked T)
   walk_from cells zero at = []
-  walk_from cells (suc most) None = []
-  walk_from cells (suc most) (Some link) =
+  walk_from cells (suc most) (End list) = []
+  walk_from cells (suc most) (Neighbour link) =
       unwrap_or (option_map (λ node. record { link = link; item = node.item } ∷ walk_from cells most node.after) (cells link)) []
 
   -- what the fields show: a walk from each list's first node, over at most as many nodes as there are
@@ -61,13 +68,14 @@ module _ {T : Type 0} where
     pub linked : AreLinked (get nodes) ends lists
     pub counted : slab_len nodes ≡ sum_by length lists
     pub room : slab_len nodes ≤ nodes.capacity
-    pub small : nodes.capacity ≤ 4294967295
+    pub small : nodes.capacity ≤ 2147483648
+    pub few : length lists ≤ 2147483648
 
   -- the same nodes, with room for so many more and for no more than keys can name
   pub record IsGrown (old : Slab (Node T)) (more : ℕ) (new : Slab (Node T)) : Type 0 where
     pub kept : new.slots ≡ old.slots
     pub room : HasRoomFor new more
-    pub small : new.capacity ≤ 4294967295
+    pub small : new.capacity ≤ 2147483648
 
   -- a node more, under a key that had none
   pub record AddsNode (node : Node T) (key : ℕ) (old new : Slab (Node T)) : Type 0 where
@@ -84,25 +92,25 @@ module _ {T : Type 0} where
     pub count : slab_len new ≡ slab_len old
     pub capacity : new.capacity ≡ old.capacity
 
-  -- what follows `before` in the list is `after` now
-  abbrev pub SetsAfter : ℕ → Option ℕ → Option ℕ → Slab (Node T) → List Ends → Slab (Node T) → List Ends → Type 0
-  SetsAfter list after None nodes ends nodes' ends' =
+  -- what follows `before` is `after` now
+  abbrev pub SetsAfter : Beside → Beside → Slab (Node T) → List Ends → Slab (Node T) → List Ends → Type 0
+  SetsAfter after (End list) nodes ends nodes' ends' =
       (nodes' ≡ nodes) × (ends' ≡ slice_set ends list (record (end_at ends list) { first = after }))
-  SetsAfter list after (Some key) nodes ends nodes' ends' =
+  SetsAfter after (Neighbour key) nodes ends nodes' ends' =
       ChangesNode (λ n. record n { after = after }) nodes key nodes' × (ends' ≡ ends)
 
-  -- what comes before `after` in the list is `before` now
-  abbrev pub SetsBefore : ℕ → Option ℕ → Option ℕ → Slab (Node T) → List Ends → Slab (Node T) → List Ends → Type 0
-  SetsBefore list before None nodes ends nodes' ends' =
+  -- what comes before `after` is `before` now
+  abbrev pub SetsBefore : Beside → Beside → Slab (Node T) → List Ends → Slab (Node T) → List Ends → Type 0
+  SetsBefore before (End list) nodes ends nodes' ends' =
       (nodes' ≡ nodes) × (ends' ≡ slice_set ends list (record (end_at ends list) { last = before }))
-  SetsBefore list before (Some key) nodes ends nodes' ends' =
+  SetsBefore before (Neighbour key) nodes ends nodes' ends' =
       ChangesNode (λ n. record n { before = before }) nodes key nodes' × (ends' ≡ ends)
 
   -- an item is added under this key, and stands between two neighbours of its list
-  pub record PutsBetween (list : ℕ) (before after : Option ℕ) (item : T) (key : ℕ) (nodes : Slab (Node T)) (ends : List Ends) (nodes' : Slab (Node T)) (ends' : List Ends) : Type 0 where
+  pub record PutsBetween (before after : Beside) (item : T) (key : ℕ) (nodes : Slab (Node T)) (ends : List Ends) (nodes' : Slab (Node T)) (ends' : List Ends) : Type 0 where
     pub more : Slab (Node T)
-    pub adds : AddsNode (record { list = list; before = before; after = after; item = item }) key nodes more
+    pub adds : AddsNode (record { before = before; after = after; item = item }) key nodes more
     pub half : Slab (Node T)
     pub half_ends : List Ends
-    pub follows : SetsAfter list (Some key) before more ends half half_ends
-    pub precedes : SetsBefore list (Some key) after half half_ends nodes' ends'
+    pub follows : SetsAfter (Neighbour key) before more ends half half_ends
+    pub precedes : SetsBefore (Neighbour key) after half half_ends nodes' ends'

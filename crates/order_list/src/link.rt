@@ -1,10 +1,12 @@
-// Links, and a link or none in the bytes of one key.
-ghost use Rattle.std.specs.Prelude.{◌≡◌, ◌<◌, None, Some};
+// Links, and what stands on one side of a node.
+ghost use Rattle.std.specs.Prelude.{◌≡◌, ◌<◌};
+ghost use Rattle.order_list.specs.Key.{link_of};
+ghost use Rattle.order_list.specs.declared.link.Beside.TheVariants.{Neighbour, End};
 
 use std::marker::Model;
 
-// No key of a node: the lists have room for fewer nodes, so that a key takes four bytes.
-const NO_KEY: u32 = u32::MAX;
+// So many nodes at most, and so many lists: then a node's key or a list's number, and which of the two it is, take four bytes.
+pub(crate) const MOST: u32 = 2_147_483_648;
 
 /// Names an item of one `OrderList` until it is unlinked; the list may give the same link out again after that. The default
 /// one holds the place of a link that is not known yet. Contracts see a number.
@@ -20,14 +22,14 @@ impl Model for Link {
 
     ghost view = { λ l. l.key };
 
-    ghost invariant = { λ l. l.key < 4294967295 };
+    ghost invariant = { λ l. l.key < 2147483648 };
 
     ghost inverse = { λ n. record { key = n } };
 }
 
 impl Link {
     pub(crate) fn new(key: usize) -> Link
-        requires { key < 4294967295 }
+        requires { key < 2147483648 }
         ensures { result ≡ key }
     {
         Link { key: key as u32 }
@@ -35,49 +37,68 @@ impl Link {
 
     pub(crate) fn key(self) -> usize
         ensures value { result ≡ self }
-        ensures some { result < 4294967295 }
+        ensures some { result < 2147483648 }
     {
         self.key as usize
     }
 }
 
-// The link of the node on one side, or none at an end of the list: four bytes, where an `Option` takes eight.
+// What stands on one side of a node: another node, or the end of the list of this number.
 #[derive(Clone, Copy)]
-pub(crate) struct Neighbour {
-    key: u32,
+pub(crate) enum Beside {
+    Neighbour(Link),
+    End(u32),
 }
 
-impl Model for Neighbour {
-    ghost use Rattle.std.specs.Prelude.{ℕ, Option};
-    ghost use Rattle.order_list.specs.Key.{key_of, link_of};
-
-    ghost Value = { Option ℕ };
-
-    ghost view = { λ n. link_of n.key };
-
-    ghost inverse = { λ o. record { key = key_of o } };
+// The same in four bytes, where the enum takes eight: the links come first, and then the numbers of the lists.
+#[derive(Clone, Copy)]
+pub(crate) struct Side {
+    bits: u32,
 }
 
-impl Neighbour {
-    pub(crate) fn none() -> Neighbour
-        ensures { result ≡ None }
+impl Model for Side {
+    ghost use Rattle.order_list.specs.declared.link.Beside.{Beside};
+
+    ghost Value = { Beside };
+
+    ghost use Rattle.order_list.specs.Key.{beside_of, bits_of};
+
+    ghost view = { λ s. beside_of s.bits };
+
+    ghost inverse = { λ b. record { bits = bits_of b } };
+}
+
+impl Side {
+    pub(crate) fn of(link: Link) -> Side
+        ensures { result ≡ Neighbour link }
     {
-        Neighbour { key: NO_KEY }
+        Side { bits: link.key }
     }
 
-    pub(crate) fn of(link: Link) -> Neighbour
-        ensures { result ≡ Some link }
+    pub(crate) fn end(list: u32) -> Side
+        requires { list < 2147483648 }
+        ensures { result ≡ End list }
     {
-        Neighbour { key: link.key }
+        Side { bits: MOST + list }
     }
 
-    pub(crate) fn link(self) -> Option<Link>
+    pub(crate) fn beside(self) -> Beside
         ensures { result ≡ self }
     {
-        if self.key == NO_KEY {
-            None
+        if self.bits < MOST {
+            Beside::Neighbour(Link { key: self.bits })
         } else {
-            Some(Link { key: self.key })
+            Beside::End(self.bits - MOST)
+        }
+    }
+
+    // The link of the neighbour; none at the end of a list.
+    pub(crate) fn link(self) -> Option<Link>
+        ensures { result ≡ link_of self }
+    {
+        match self.beside() {
+            Beside::Neighbour(link) => Some(link),
+            Beside::End(_list) => None,
         }
     }
 }

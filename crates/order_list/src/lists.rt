@@ -2,10 +2,11 @@
 ghost use Rattle.std.specs.Prelude.{◌≡◌, ℕ, ◌+◌, ◌<◌, ◌≤◌, [], IfOk, IfSome, IsOk, OnOk, Some, length, option_map, replicate, slice_get};
 ghost use Rattle.std.specs.List.{after_first};
 ghost use Rattle.slab.specs.Slab.{ContainsKey, HasRoomFor};
-ghost use Rattle.order_list.specs.Links.{AddsNode, IsGrown, PutsBetween, no_ends};
+ghost use Rattle.order_list.specs.Links.{AddsNode, AreEmpty, IsGrown, PutsBetween};
+ghost use Rattle.order_list.specs.declared.link.Beside.TheVariants.{Neighbour, End};
 ghost use Rattle.order_list.specs.Lists.{AreLists, IsFresh, IsIn, IsLive, OthersStay, Stay, first_link, is_at, list_at, with_before, with_item, with_last, without};
 
-use crate::link::{Link, Neighbour};
+use crate::link::{Link, MOST, Side};
 use crate::node::{Ends, Node, set_after, set_before, set_item};
 use slab::Slab;
 use std::alloc::{AllocError, Global};
@@ -46,10 +47,13 @@ impl<T: Copy> OrderList<T> {
     ghost use Rattle.std.specs.Borrow.{sem};
     ghost use Rattle.order_list.specs.Lending.{LendsItem};
 
-    /// So many empty lists, with no room for an item yet.
+    /// So many empty lists, with no room for an item yet. There is no memory for more than 2,147,483,648 of them.
     pub fn make(alloc: Global, lists: u32) -> Result<OrderList<T>, ListFault>
         ensures { IfOk result (λ made. made ≡ record { lists = replicate lists []; spare = 0 }) }
     {
+        if lists > MOST {
+            return Err(ListFault::Memory);
+        }
         let ends = empty_ends(alloc, lists).map_err(|_| ListFault::Memory)?;
         Ok(OrderList {
             nodes: Slab::new(alloc),
@@ -57,7 +61,7 @@ impl<T: Copy> OrderList<T> {
         })
     }
 
-    /// Makes room for `n` more items, in all for fewer than 4,294,967,296. What room there was stays, whatever is answered.
+    /// Makes room for `n` more items, in all for at most 2,147,483,648. What room there was stays, whatever is answered.
     /// Items that are there already are copied.
     pub fn reserve(&mut self, _alloc: Global, n: u32) -> Result<(), ListFault>
         ensures room { OnOk result (n ≤ self.new.spare) }
@@ -102,9 +106,8 @@ impl<T: Copy> OrderList<T> {
         put_between(
             &mut self.nodes,
             self.ends.as_mut_slice(),
-            list,
             last,
-            Neighbour::none(),
+            Side::end(list),
             item,
         )
     }
@@ -122,14 +125,12 @@ impl<T: Copy> OrderList<T> {
         ensures spare { self.new.spare + 1 ≡ self.old.spare }
     {
         let node = &self.nodes[link.key()];
-        let list = node.list;
         let before = node.before;
         put_between(
             &mut self.nodes,
             self.ends.as_mut_slice(),
-            list,
             before,
-            Neighbour::of(link),
+            Side::of(link),
             item,
         )
     }
@@ -145,25 +146,12 @@ impl<T: Copy> OrderList<T> {
         ensures spare { self.new.spare ≡ self.old.spare + 1 }
     {
         let Node {
-            list,
             before,
             after,
             item,
         } = self.nodes.remove(link.key());
-        set_after(
-            &mut self.nodes,
-            self.ends.as_mut_slice(),
-            list,
-            before,
-            after,
-        );
-        set_before(
-            &mut self.nodes,
-            self.ends.as_mut_slice(),
-            list,
-            after,
-            before,
-        );
+        set_after(&mut self.nodes, self.ends.as_mut_slice(), before, after);
+        set_before(&mut self.nodes, self.ends.as_mut_slice(), after, before);
         item
     }
 
@@ -225,7 +213,7 @@ fn with_room<T: Copy>(nodes: &Slab<Node<T>>, more: usize) -> Result<Slab<Node<T>
 {
     let mut grown = nodes.clone().map_err(|_| ListFault::Memory)?;
     grown.reserve(more).map_err(|_| ListFault::Memory)?;
-    if grown.capacity() > u32::MAX as usize {
+    if grown.capacity() > MOST as usize {
         return Err(ListFault::Memory);
     }
     Ok(grown)
@@ -233,51 +221,51 @@ fn with_room<T: Copy>(nodes: &Slab<Node<T>>, more: usize) -> Result<Slab<Node<T>
 
 // The ends of so many empty lists.
 fn empty_ends(alloc: Global, lists: u32) -> Result<Vec<Ends>, AllocError>
-    ensures { IfOk result (λ ends. ends.items ≡ replicate lists no_ends) }
+    requires { lists ≤ 2147483648 }
+    ensures { IfOk result (λ ends. AreEmpty lists ends.items) }
 {
     let mut ends = Vec::with_capacity(alloc, lists as usize)?;
-    for _number in 0..lists {
+    for list in 0..lists {
         ends.push(Ends {
-            first: Neighbour::none(),
-            last: Neighbour::none(),
+            first: Side::end(list),
+            last: Side::end(list),
         })?;
     }
     Ok(ends)
 }
 
-// Puts an item between two neighbours of a list, of which either may be none.
+// Puts an item between two neighbours of a list, of which either may be its end.
 fn put_between<T: Copy>(
     nodes: &mut Slab<Node<T>>,
     ends: &mut [Ends],
-    list: u32,
-    before: Neighbour,
-    after: Neighbour,
+    before: Side,
+    after: Side,
     item: T,
 ) -> Link
     requires room { HasRoomFor nodes.old 1 }
-    requires small { nodes.old.capacity ≤ 4294967295 }
-    requires within { list < length ends.old }
-    requires before { (key : ℕ) → before ≡ Some key → ContainsKey nodes.old key }
-    requires after { (key : ℕ) → after ≡ Some key → ContainsKey nodes.old key }
-    ensures { PutsBetween list before after item result nodes.old ends.old nodes.new ends.new }
+    requires small { nodes.old.capacity ≤ 2147483648 }
+    requires before { (key : ℕ) → before ≡ Neighbour key → ContainsKey nodes.old key }
+    requires after { (key : ℕ) → after ≡ Neighbour key → ContainsKey nodes.old key }
+    requires first { (list : ℕ) → before ≡ End list → list < length ends.old }
+    requires last { (list : ℕ) → after ≡ End list → list < length ends.old }
+    ensures { PutsBetween before after item result nodes.old ends.old nodes.new ends.new }
 {
     let link = add_node(
         nodes,
         Node {
-            list,
             before,
             after,
             item,
         },
     );
-    set_after(nodes, ends, list, before, Neighbour::of(link));
-    set_before(nodes, ends, list, after, Neighbour::of(link));
+    set_after(nodes, ends, before, Side::of(link));
+    set_before(nodes, ends, after, Side::of(link));
     link
 }
 
 fn add_node<T: Copy>(nodes: &mut Slab<Node<T>>, node: Node<T>) -> Link
     requires room { HasRoomFor nodes.old 1 }
-    requires small { nodes.old.capacity ≤ 4294967295 }
+    requires small { nodes.old.capacity ≤ 2147483648 }
     ensures { AddsNode node result nodes.old nodes.new }
 {
     Link::new(nodes.insert_reserved(node))

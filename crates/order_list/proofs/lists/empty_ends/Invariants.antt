@@ -1,6 +1,5 @@
-use Rattle.std.proofs.Common.{◌≡◌, replicate}
-use Rattle.order_list.specs.Links.{no_ends}
+use Rattle.order_list.specs.Links.{AreEmpty}
 use Rattle.order_list.proofs.lists.empty_ends.Given as goal
 
-abbrev pub invariant-loop-number : goal.invariant-loop-number
-invariant-loop-number l = l.ends.items ≡ replicate l._number no_ends
+abbrev pub invariant-loop-list : goal.invariant-loop-list
+invariant-loop-list l = AreEmpty l.list l.ends.items

@@ -20,13 +20,17 @@ index-node-requires g c =
     subst (ContainsKey c.self.inside.nodes) (sym c.key.ensures.value)
     (has-key c.self.inside.nodes c.self.inside.ends.items c.self.invariant c.args.self.now c.args.link c.self.view_is c.requires.live)
 
-pub put_between-requires-clause-within : goal.put_between-requires-clause-within
-put_between-requires-clause-within g c =
+pub put_between-requires-clause-first : goal.put_between-requires-clause-first
+put_between-requires-clause-first g c end is =
     let nodes = c.self.inside.nodes in
     let ends = c.self.inside.ends.items in
     let live = live-in nodes ends c.self.invariant c.args.self.now c.args.link c.requires.live.0 c.requires.live.1 c.self.view_is c.requires.live.2 in
     let found = ap (get nodes) (sym c.key.ensures.value) ∙ c.index-node.ensures in
-    omega (arith, front-within nodes ends c.self.invariant c.args.link c.requires.live.0 c.requires.live.1 c.index-node.result.now live found, ap (length {A = Ends}) c.as_mut_slice.ensures.value)
+    omega (
+      arith,
+      front-within nodes ends c.self.invariant c.args.link c.requires.live.0 c.requires.live.1 c.index-node.result.now live found end is,
+      ap (length {A = Ends}) c.as_mut_slice.ensures.value,
+    )
 
 pub put_between-requires-clause-before : goal.put_between-requires-clause-before
 put_between-requires-clause-before g c =

@@ -5,15 +5,16 @@ use Rattle.order_list.specs.Lists.{IsIn, Stay, list_at}
 use Rattle.order_list.specs.Links.{IsAbsent}
 use Rattle.order_list.proofs.CallLemmas.{fresh}
 use Rattle.order_list.proofs.StayLemmas.{names-last, stay-last}
-use Rattle.std.proofs.Common.{◌≡◌, ◌<◌, List, ◌++◌, length, take, drop, None, sym, ◌∙◌, ap, subst, arith}
+use Rattle.std.proofs.Common.{◌≡◌, ◌<◌, List, ◌++◌, length, take, drop, sym, ◌∙◌, ap, subst, arith}
 use Rattle.slab.specs.Slab.{get}
 use Rattle.order_list.specs.Lists.{IsFresh, Linked, Lists, list_at, with_last}
 use Rattle.order_list.specs.Links.{IsSound, end_at, no_ends, shown}
+use Rattle.order_list.specs.declared.link.Beside.TheVariants.{Neighbour, End}
 use Rattle.order_list.specs.declared.node.Ends.{Ends}
 use Rattle.std.proofs.lemmas.List.{get_or_default}
 use Rattle.order_list.proofs.CallLemmas.{fresh-link, put-last, written-back}
 use Rattle.order_list.proofs.SoundLemmas.{lists-are, shown-is}
-use Rattle.order_list.proofs.SegmentLemmas.{last-there}
+use Rattle.order_list.proofs.SegmentLemmas.{last-end, last-there, list-is}
 use Rattle.order_list.proofs.CallLemmas.{StandsFor}
 use Rattle.order_list.proofs.lists.OrderList.push_back.Given as given
 use Rattle.order_list.proofs.lists.OrderList.push_back.Goals as goal
@@ -27,9 +28,40 @@ put_between-requires-clause-before g c key is =
     let are = lists-are nodes ends c.args.self.now sound c.self.view_is in
     let within : list < length sound.lists = omega (arith, c.requires.within, ap (length {A = List (Linked g.row.T.Denot)}) are) in
     let end : c.index.result.now ≡ end_at ends list =
-    c.index.ensures ∙ get_or_default ends list c.index.result.now no_ends (omega (arith, within, sound.linked.same)) in
-    last-there (get nodes) list (end_at ends list).first (list_at sound.lists list) (end_at ends list).last None key (sound.linked.each list within)
+    c.index.ensures ∙ get_or_default ends list c.index.result.now (no_ends list) (omega (arith, within, sound.linked.same)) in
+    last-there (get nodes) list (end_at ends list).first (list_at sound.lists list) (end_at ends list).last (End list) key (sound.linked.each list within)
     (sym (ap (λ (e : Ends). e.last) end) ∙ is)
+
+pub put_between-requires-clause-first : goal.put_between-requires-clause-first
+put_between-requires-clause-first g c other is =
+    let nodes = c.self.inside.nodes in
+    let ends = c.self.inside.ends.items in
+    let sound = c.self.invariant in
+    let list = c.args.list in
+    let are = lists-are nodes ends c.args.self.now sound c.self.view_is in
+    let within : list < length sound.lists = omega (arith, c.requires.within, ap (length {A = List (Linked g.row.T.Denot)}) are) in
+    let end : c.index.result.now ≡ end_at ends list =
+    c.index.ensures ∙ get_or_default ends list c.index.result.now (no_ends list) (omega (arith, within, sound.linked.same)) in
+    let same : other ≡ list =
+    last-end (get nodes) list (end_at ends list).first (list_at sound.lists list) (end_at ends list).last (End list) other (sound.linked.each list within)
+    (sym (ap (λ (e : Ends). e.last) end) ∙ is) in
+    omega (arith, same, within, sound.linked.same, ap (length {A = Ends}) c.as_mut_slice.ensures.value)
+
+pub put_between-requires-clause-last : goal.put_between-requires-clause-last
+put_between-requires-clause-last g c other is =
+    let are = lists-are c.self.inside.nodes c.self.inside.ends.items c.args.self.now c.self.invariant c.self.view_is in
+    let same : other ≡ c.args.list = list-is (sym is ∙ c.end.ensures) in
+    omega (arith, same, c.requires.within, ap (length {A = List (Linked g.row.T.Denot)}) are, c.self.invariant.linked.same, ap (length {A = Ends}) c.as_mut_slice.ensures.value)
+
+pub put_between-requires-clause-after : goal.put_between-requires-clause-after
+put_between-requires-clause-after g c key is =
+    let none : End c.args.list ≡ Neighbour key = sym c.end.ensures ∙ is in
+    absurd (cc)
+
+pub end-requires : goal.end-requires
+end-requires g c =
+    let are = lists-are c.self.inside.nodes c.self.inside.ends.items c.args.self.now c.self.invariant c.self.view_is in
+    omega (arith, c.requires.within, ap (length {A = List (Linked g.row.T.Denot)}) are, c.self.invariant.few)
 
 -- the lists that the new fields stand for
 done : (g : given.Over) (c : goal.After-self-1 g) → StandsFor c.put_between.new.nodes c.put_between.new.ends (with_last c.args.list (record { link = c.put_between.result; item = c.args.item }) c.self.invariant.lists)
@@ -41,9 +73,9 @@ done g c =
     let are = lists-are nodes ends c.args.self.now sound c.self.view_is in
     let within : list < length sound.lists = omega (arith, c.requires.within, ap (length {A = List (Linked g.row.T.Denot)}) are) in
     let end : c.index.result.now ≡ end_at ends list =
-    c.index.ensures ∙ get_or_default ends list c.index.result.now no_ends (omega (arith, within, sound.linked.same)) in
-    put-last nodes c.put_between.new.nodes ends c.as_mut_slice.result.now c.put_between.new.ends sound list c.index.result.now.last c.none.result c.args.item c.put_between.result
-    within (omega (arith, c.requires.room, ap (λ (l : Lists g.row.T.Denot). l.spare) c.self.view_is)) (ap (λ (e : Ends). e.last) end) c.none.ensures c.as_mut_slice.ensures.value c.put_between.ensures
+    c.index.ensures ∙ get_or_default ends list c.index.result.now (no_ends list) (omega (arith, within, sound.linked.same)) in
+    put-last nodes c.put_between.new.nodes ends c.as_mut_slice.result.now c.put_between.new.ends sound list c.index.result.now.last c.end.result c.args.item c.put_between.result
+    within (omega (arith, c.requires.room, ap (λ (l : Lists g.row.T.Denot). l.spare) c.self.view_is)) (ap (λ (e : Ends). e.last) end) c.end.ensures c.as_mut_slice.ensures.value c.put_between.ensures
 
 back : (g : given.Over) (c : goal.After-self-1 g) → take c.self.inside.ends.len (c.put_between.new.ends ++ drop (length c.put_between.new.ends) c.self.inside.ends.items) ≡ c.put_between.new.ends
 back g c =

@@ -6,25 +6,25 @@ use Rattle.slab.specs.Slab.{ContainsKey, Updates, get}
 use Rattle.order_list.specs.Lists.{without}
 use Rattle.order_list.specs.Links.{IsSound, SetsAfter, SetsBefore, shown}
 use Rattle.order_list.specs.declared.node.Ends.{Ends}
-use Rattle.order_list.proofs.CallLemmas.{StandsFor, after-there, before-there, has-key, item-is, list-within, list-within-half, live-in, taken, written-back}
+use Rattle.order_list.proofs.CallLemmas.{StandsFor, after-there, after-within, before-there, before-within, has-key, item-is, live-in, taken, written-back}
 use Rattle.order_list.proofs.SoundLemmas.{lists-are, shown-is}
 use Rattle.order_list.proofs.lists.OrderList.unlink.Given as given
 use Rattle.order_list.proofs.lists.OrderList.unlink.Goals as goal
 
-pub remove-list-requires : goal.remove-list-requires
-remove-list-requires g c =
+pub remove-before-requires : goal.remove-before-requires
+remove-before-requires g c =
     subst (ContainsKey c.self.inside.nodes) (sym c.key.ensures.value)
     (has-key c.self.inside.nodes c.self.inside.ends.items c.self.invariant c.args.self.now c.args.link c.self.view_is c.requires)
 
 pub set_after-requires-clause-within : goal.set_after-requires-clause-within
-set_after-requires-clause-within g c =
+set_after-requires-clause-within g c end is =
     let nodes = c.self.inside.nodes in
     let ends = c.self.inside.ends.items in
     let live = live-in nodes ends c.self.invariant c.args.self.now c.args.link c.requires.0 c.requires.1 c.self.view_is c.requires.2 in
-    let gone = subst (λ k. Updates nodes c.remove-list.new.self k None) c.key.ensures.value c.remove-list.ensures.updates in
+    let gone = subst (λ k. Updates nodes c.remove-before.new.self k None) c.key.ensures.value c.remove-before.ensures.updates in
     omega (
       arith,
-      list-within nodes c.remove-list.new.self ends c.self.invariant c.args.link c.requires.0 c.requires.1 c.remove-list.result live (ap (get nodes) (sym c.key.ensures.value) ∙ c.remove-list.ensures.value) gone,
+      before-within nodes c.remove-before.new.self ends c.self.invariant c.args.link c.requires.0 c.requires.1 c.remove-before.result live (ap (get nodes) (sym c.key.ensures.value) ∙ c.remove-before.ensures.value) gone end is,
       ap (length {A = Ends}) c.as_mut_slice.ensures.value,
     )
 
@@ -33,8 +33,8 @@ set_after-requires-clause-live g c =
     let nodes = c.self.inside.nodes in
     let ends = c.self.inside.ends.items in
     let live = live-in nodes ends c.self.invariant c.args.self.now c.args.link c.requires.0 c.requires.1 c.self.view_is c.requires.2 in
-    let gone = subst (λ k. Updates nodes c.remove-list.new.self k None) c.key.ensures.value c.remove-list.ensures.updates in
-    before-there nodes c.remove-list.new.self ends c.self.invariant c.args.link c.requires.0 c.requires.1 c.remove-list.result live (ap (get nodes) (sym c.key.ensures.value) ∙ c.remove-list.ensures.value) gone
+    let gone = subst (λ k. Updates nodes c.remove-before.new.self k None) c.key.ensures.value c.remove-before.ensures.updates in
+    before-there nodes c.remove-before.new.self ends c.self.invariant c.args.link c.requires.0 c.requires.1 c.remove-before.result live (ap (get nodes) (sym c.key.ensures.value) ∙ c.remove-before.ensures.value) gone
 
 back : (g : given.Over) (c : goal.After-as_mut_slice-2 g) → take c.self.inside.ends.len (c.set_after.new.ends ++ drop (length c.set_after.new.ends) c.self.inside.ends.items) ≡ c.set_after.new.ends
 back g c =
@@ -42,21 +42,21 @@ back g c =
     written-back c.set_after.new.ends c.self.inside.ends.items c.self.inside.ends.len (omega (arith, same, c.set_after.auto.ends)) (omega (arith, same, c.as_mut_slice.ensures.len))
 
 -- how the first of the two changes ends
-follows : (g : given.Over) (c : goal.After-as_mut_slice-2 g) → SetsAfter c.remove-list.result.list c.remove-list.result.after c.remove-list.result.before c.remove-list.new.self c.self.inside.ends.items c.set_after.new.nodes c.set_after.new.ends
+follows : (g : given.Over) (c : goal.After-as_mut_slice-2 g) → SetsAfter c.remove-before.result.after c.remove-before.result.before c.remove-before.new.self c.self.inside.ends.items c.set_after.new.nodes c.set_after.new.ends
 follows g c =
-    subst (λ es. SetsAfter c.remove-list.result.list c.remove-list.result.after c.remove-list.result.before c.remove-list.new.self es c.set_after.new.nodes c.set_after.new.ends)
+    subst (λ es. SetsAfter c.remove-before.result.after c.remove-before.result.before c.remove-before.new.self es c.set_after.new.nodes c.set_after.new.ends)
     c.as_mut_slice.ensures.value c.set_after.ensures
 
 pub set_before-requires-clause-within : goal.set_before-requires-clause-within
-set_before-requires-clause-within g c =
+set_before-requires-clause-within g c end is =
     let nodes = c.self.inside.nodes in
     let ends = c.self.inside.ends.items in
     let live = live-in nodes ends c.self.invariant c.args.self.now c.args.link c.requires.0 c.requires.1 c.self.view_is c.requires.2 in
-    let gone = subst (λ k. Updates nodes c.remove-list.new.self k None) c.key.ensures.value c.remove-list.ensures.updates in
+    let gone = subst (λ k. Updates nodes c.remove-before.new.self k None) c.key.ensures.value c.remove-before.ensures.updates in
     omega (
       arith,
-      list-within-half nodes c.remove-list.new.self ends c.self.invariant c.args.link c.requires.0 c.requires.1 c.remove-list.result live (ap (get nodes) (sym c.key.ensures.value) ∙ c.remove-list.ensures.value) gone
-          c.set_after.new.nodes c.set_after.new.ends (follows g c),
+      after-within nodes c.remove-before.new.self ends c.self.invariant c.args.link c.requires.0 c.requires.1 c.remove-before.result live (ap (get nodes) (sym c.key.ensures.value) ∙ c.remove-before.ensures.value) gone
+          c.set_after.new.nodes c.set_after.new.ends (follows g c) end is,
       ap (length {A = Ends}) (c.as_mut_slice-2.ensures.value ∙ back g c),
     )
 
@@ -65,8 +65,8 @@ set_before-requires-clause-live g c =
     let nodes = c.self.inside.nodes in
     let ends = c.self.inside.ends.items in
     let live = live-in nodes ends c.self.invariant c.args.self.now c.args.link c.requires.0 c.requires.1 c.self.view_is c.requires.2 in
-    let gone = subst (λ k. Updates nodes c.remove-list.new.self k None) c.key.ensures.value c.remove-list.ensures.updates in
-    after-there nodes c.remove-list.new.self ends c.self.invariant c.args.link c.requires.0 c.requires.1 c.remove-list.result live (ap (get nodes) (sym c.key.ensures.value) ∙ c.remove-list.ensures.value) gone
+    let gone = subst (λ k. Updates nodes c.remove-before.new.self k None) c.key.ensures.value c.remove-before.ensures.updates in
+    after-there nodes c.remove-before.new.self ends c.self.invariant c.args.link c.requires.0 c.requires.1 c.remove-before.result live (ap (get nodes) (sym c.key.ensures.value) ∙ c.remove-before.ensures.value) gone
     c.set_after.new.nodes c.set_after.new.ends (follows g c)
 
 -- the lists that the new fields stand for
@@ -75,17 +75,17 @@ done g c =
     let nodes = c.self.inside.nodes in
     let ends = c.self.inside.ends.items in
     let live = live-in nodes ends c.self.invariant c.args.self.now c.args.link c.requires.0 c.requires.1 c.self.view_is c.requires.2 in
-    let gone = subst (λ k. Updates nodes c.remove-list.new.self k None) c.key.ensures.value c.remove-list.ensures.updates in
+    let gone = subst (λ k. Updates nodes c.remove-before.new.self k None) c.key.ensures.value c.remove-before.ensures.updates in
     let same = ap (length {A = Ends}) c.as_mut_slice.ensures.value in
     let back = written-back c.set_after.new.ends ends c.self.inside.ends.len (omega (arith, same, c.set_after.auto.ends)) (omega (arith, same, c.as_mut_slice.ensures.len)) in
     let follows =
-    subst (λ es. SetsAfter c.remove-list.result.list c.remove-list.result.after c.remove-list.result.before c.remove-list.new.self es c.set_after.new.nodes c.set_after.new.ends)
+    subst (λ es. SetsAfter c.remove-before.result.after c.remove-before.result.before c.remove-before.new.self es c.set_after.new.nodes c.set_after.new.ends)
     c.as_mut_slice.ensures.value c.set_after.ensures in
     let precedes =
-    subst (λ es. SetsBefore c.remove-list.result.list c.remove-list.result.before c.remove-list.result.after c.set_after.new.nodes es c.set_before.new.nodes c.set_before.new.ends)
+    subst (λ es. SetsBefore c.remove-before.result.before c.remove-before.result.after c.set_after.new.nodes es c.set_before.new.nodes c.set_before.new.ends)
     (c.as_mut_slice-2.ensures.value ∙ back) c.set_before.ensures in
-    taken nodes c.remove-list.new.self ends c.self.invariant c.args.link c.requires.0 c.requires.1 c.remove-list.result live (ap (get nodes) (sym c.key.ensures.value) ∙ c.remove-list.ensures.value) gone
-    c.set_after.new.nodes c.set_after.new.ends follows c.set_before.new.nodes c.set_before.new.ends c.remove-list.ensures.len c.remove-list.ensures.capacity precedes
+    taken nodes c.remove-before.new.self ends c.self.invariant c.args.link c.requires.0 c.requires.1 c.remove-before.result live (ap (get nodes) (sym c.key.ensures.value) ∙ c.remove-before.ensures.value) gone
+    c.set_after.new.nodes c.set_after.new.ends follows c.set_before.new.nodes c.set_before.new.ends c.remove-before.ensures.len c.remove-before.ensures.capacity precedes
 
 back-again : (g : given.Over) (c : goal.After-self-2-1 g)
     → take c.self.inside.ends.len (c.set_before.new.ends ++ drop (length c.set_before.new.ends) (take c.self.inside.ends.len (c.set_after.new.ends ++ drop (length c.set_after.new.ends) c.self.inside.ends.items))) ≡ c.set_before.new.ends
@@ -101,9 +101,9 @@ invariant_of-self g c = subst (IsSound c.set_before.new.nodes) (sym (back-again 
 
 pub returns-clause-item : goal.returns-clause-item
 returns-clause-item g c list item live =
-    item-is c.self.inside.nodes c.self.inside.ends.items c.self.invariant c.args.link list item c.remove-list.result
+    item-is c.self.inside.nodes c.self.inside.ends.items c.self.invariant c.args.link list item c.remove-before.result
     (live-in c.self.inside.nodes c.self.inside.ends.items c.self.invariant c.args.self.now c.args.link list item c.self.view_is live)
-    (ap (get c.self.inside.nodes) (sym c.key.ensures.value) ∙ c.remove-list.ensures.value)
+    (ap (get c.self.inside.nodes) (sym c.key.ensures.value) ∙ c.remove-before.ensures.value)
 
 pub returns-clause-lists : goal.returns-clause-lists
 returns-clause-lists g c =
