@@ -15,9 +15,8 @@ use Rattle.mkt_base.specs.declared.order.Spot.{Spot}
 use Rattle.mkt_base.specs.declared.order.Spot.TheVariants.{Market, At}
 use Rattle.mkt_base.specs.declared.order.Order.{Order}
 use Rattle.book_law.specs.BookView.{BookView, IsBookView, IsFresh as IsFreshOrder, IsInserted, IsLive, IsSpotBelow, Names, Slot, is_at, less, less_at, orders, reduced, slot_of, without}
-use Rattle.order_book.specs.Depths.{AreDepthsOf, by_spot, depth_at, fewer, is_limit_buy, more}
+use Rattle.order_book.specs.Depths.{AreDepthsOf, DepthView, by_spot, depth_at, fewer, is_limit_buy, more}
 use Rattle.order_book.specs.Linked.{AreApart, Holds, IsFiled, IsLinked, level_at, level_key, level_no, linked, orders_in, owner_at, owner_key, slot_at}
-use Rattle.order_book.specs.declared.depths.Depths.{Depths}
 use Rattle.order_book.specs.declared.held.Filed.{Filed}
 use Rattle.order_book.specs.declared.held.Held.{Held}
 use Rattle.order_book.proofs.FiledLemmas.{apart-filter, apart-map, apart-push, filed-changed, filed-in, filed-inserted, filed-removed, filter-map, filter-same, find-cases, find-holds, find-passes, only-one}
@@ -127,7 +126,7 @@ level-within n Buy (At i) below = omega (arith, below)
 level-within n Sell (At i) below = omega (arith, below)
 
 -- an order more
-module _ (n c b : ℕ) (ns : List (Linked Held)) (spare spare' : ℕ) (levels owners levels' owners' : Lists ℕ) (d d' : Depths) (is : Holds n c b ns spare levels owners d)
+module _ (n c b : ℕ) (ns : List (Linked Held)) (spare spare' : ℕ) (levels owners levels' owners' : Lists ℕ) (d d' : DepthView) (is : Holds n c b ns spare levels owners d)
     (o : Order) (h l w : ℕ) (x : Held) (x_is : x ≡ record { order = o; filed = record { level = l; owner = w } })
     (new : IsFreshOrder (record { prices = n; capacity = c; slots = map slot_at ns }) o) (fresh : AllByRecursion (λ m. m.link ≢ h) ns)
     (levels_are : levels'.lists ≡ with_last (level_key o) (record { link = l; item = h }) levels.lists) (level_free : ¬ IsLinkLive levels.lists l) (level_spare : levels'.spare + 1 ≡ levels.spare)
@@ -183,7 +182,7 @@ module _ (n c b : ℕ) (ns : List (Linked Held)) (spare spare' : ℕ) (levels ow
       }
 
 -- an order less
-module _ (n c b : ℕ) (ns : List (Linked Held)) (spare spare' : ℕ) (levels owners levels' owners' : Lists ℕ) (d d' : Depths) (is : Holds n c b ns spare levels owners d)
+module _ (n c b : ℕ) (ns : List (Linked Held)) (spare spare' : ℕ) (levels owners levels' owners' : Lists ℕ) (d d' : DepthView) (is : Holds n c b ns spare levels owners d)
     (h : ℕ) (x : Held) (found : find (is_link_at h) ns ≡ Some (record { link = h; item = x })) (below : IsSpotBelow n x.order.spot)
     (levels_are : levels'.lists ≡ without_link (level_at x) levels.lists) (level_spare : levels'.spare ≡ levels.spare + 1)
     (owners_are : owners'.lists ≡ without_link (owner_at x) owners.lists) (owner_spare : owners'.spare ≡ owners.spare + 1)
@@ -217,7 +216,7 @@ module _ (n c b : ℕ) (ns : List (Linked Held)) (spare spare' : ℕ) (levels ow
       }
 
 -- an order with less left
-module _ (n c b : ℕ) (ns : List (Linked Held)) (spare : ℕ) (levels owners : Lists ℕ) (d d' : Depths) (is : Holds n c b ns spare levels owners d)
+module _ (n c b : ℕ) (ns : List (Linked Held)) (spare : ℕ) (levels owners : Lists ℕ) (d d' : DepthView) (is : Holds n c b ns spare levels owners d)
     (h by : ℕ) (x y : Held) (found : find (is_link_at h) ns ≡ Some (record { link = h; item = x })) (below : IsSpotBelow n x.order.spot)
     (y_is : y ≡ record { order = less by x.order; filed = x.filed }) (within : by < x.order.left)
     (depths_are : d' ≡ fewer x.order.side x.order.spot by d) where
@@ -272,7 +271,7 @@ module _ (n c b : ℕ) (ns : List (Linked Held)) (spare : ℕ) (levels owners : 
       same-links [] = tt
       same-links (m ∷ ms) = (refl, same-links ms)
 
-module _ (n c b : ℕ) (held : Lists Held) (levels owners : Lists ℕ) (d : Depths) (is : IsLinked n c b held levels owners d) (now : BookView) (view : linked n c held.lists ≡ now) where
+module _ (n c b : ℕ) (held : Lists Held) (levels owners : Lists ℕ) (d : DepthView) (is : IsLinked n c b held levels owners d) (now : BookView) (view : linked n c held.lists ≡ now) where
   abbrev pub nodes : List (Linked Held)
   nodes = list_at held.lists 0
 
@@ -388,7 +387,7 @@ module _ (n c b : ℕ) (held : Lists Held) (levels owners : Lists ℕ) (d : Dept
     room-owners = omega (arith, room, is.holds.owner_room)
 
     -- an order more, filed under new links
-    module _ (held1 held2 : Lists Held) (levels' owners' : Lists ℕ) (d' : Depths) (h l w k j : ℕ) (x y : Held) (x_is : x ≡ record { order = o; filed = record { level = l; owner = w } })
+    module _ (held1 held2 : Lists Held) (levels' owners' : Lists ℕ) (d' : DepthView) (h l w k j : ℕ) (x y : Held) (x_is : x ≡ record { order = o; filed = record { level = l; owner = w } })
         (pushed : held1.lists ≡ with_last 0 (record { link = h; item = y }) held.lists) (unlike : IsFresh held.lists h) (pushed_spare : held1.spare + 1 ≡ held.spare)
         (put : held2.lists ≡ with_item h x held1.lists) (put_spare : held2.spare ≡ held1.spare)
         (k_is : k ≡ level_no o.side o.spot) (levels_are : levels'.lists ≡ with_last k (record { link = l; item = h }) levels.lists) (level_free : ¬ IsLinkLive levels.lists l) (level_spare : levels'.spare + 1 ≡ levels.spare)
@@ -471,7 +470,7 @@ module _ (n c b : ℕ) (held : Lists Held) (levels owners : Lists ℕ) (d : Dept
         omega (arith, part, is.holds.depths.limit_buys, ap (λ t. cond t kept.order.left 0) so)
 
     -- an order less
-    module _ (held' : Lists Held) (levels' owners' : Lists ℕ) (d' : Depths) (taken : held'.lists ≡ without_link h held.lists) (held_spare : held'.spare ≡ held.spare + 1)
+    module _ (held' : Lists Held) (levels' owners' : Lists ℕ) (d' : DepthView) (taken : held'.lists ≡ without_link h held.lists) (held_spare : held'.spare ≡ held.spare + 1)
         (levels_are : levels'.lists ≡ without_link (level_at kept) levels.lists) (level_spare : levels'.spare ≡ levels.spare + 1)
         (owners_are : owners'.lists ≡ without_link (owner_at kept) owners.lists) (owner_spare : owners'.spare ≡ owners.spare + 1)
         (depths_are : d' ≡ fewer kept.order.side kept.order.spot kept.order.left d) where
@@ -495,7 +494,7 @@ module _ (n c b : ℕ) (held : Lists Held) (levels owners : Lists ℕ) (d : Dept
           ∙ ap (without h) view
 
     -- an order with less left
-    module _ (by : ℕ) (held' : Lists Held) (d' : Depths) (y : Held) (less-left : by < kept.order.left) (y_is : y ≡ record { order = less by kept.order; filed = kept.filed })
+    module _ (by : ℕ) (held' : Lists Held) (d' : DepthView) (y : Held) (less-left : by < kept.order.left) (y_is : y ≡ record { order = less by kept.order; filed = kept.filed })
         (put : held'.lists ≡ with_item h y held.lists) (put_spare : held'.spare ≡ held.spare) (depths_are : d' ≡ fewer kept.order.side kept.order.spot by d) where
       changed-nodes : list_at held'.lists 0 ≡ map (item_at h y) nodes
       changed-nodes = ap (λ ls. list_at ls 0) put ∙ get_or-map (map (item_at h y)) held.lists 0 [] [] (omega (arith, is.one))
@@ -521,7 +520,7 @@ unfolding total_left
 nothing-left p = refl
 
 -- a book without orders
-pub made-linked : (n c b : ℕ) (held : Lists Held) (levels owners : Lists ℕ) (d : Depths) → 1 ≤ n → n ≤ 20000 → c ≤ 4294967295 → 1 ≤ b
+pub made-linked : (n c b : ℕ) (held : Lists Held) (levels owners : Lists ℕ) (d : DepthView) → 1 ≤ n → n ≤ 20000 → c ≤ 4294967295 → 1 ≤ b
     → held.lists ≡ replicate 1 [] → levels.lists ≡ replicate (2 * n + 2) [] → owners.lists ≡ replicate b [] → c ≤ held.spare → c ≤ levels.spare → c ≤ owners.spare
     → d.buys ≡ replicate n 0 → d.sells ≡ replicate n 0 → d.market_buys ≡ 0 → d.market_sells ≡ 0 → d.limit_buys ≡ 0 → IsLinked n c b held levels owners d
 made-linked n c b held levels owners d some few bound buckets held_is levels_are owners_are held_spare level_spare owner_spare buys sells market_buys market_sells limit_buys =

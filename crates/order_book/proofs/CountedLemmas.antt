@@ -15,12 +15,11 @@ use Rattle.mkt_base.specs.declared.order.Spot.{Spot}
 use Rattle.mkt_base.specs.declared.order.Spot.TheVariants.{Market, At}
 use Rattle.mkt_base.specs.declared.order.Order.{Order}
 use Rattle.book_law.specs.BookView.{BookView, IsGridOf, IsSpotBelow, orders}
-use Rattle.order_book.specs.Depths.{by_spot, depth_at, is_limit_buy, limits_of}
+use Rattle.order_book.specs.Depths.{DepthView, by_spot, depth_at, is_limit_buy, limits_of}
 use Rattle.order_book.specs.Levels.{with_price}
 use Rattle.order_book.specs.Limits.{IsFirstLimitReached, IsNoLimitReached, is_limit_to}
 use Rattle.order_book.specs.Linked.{IsLinked, linked, orders_in}
 use Rattle.order_book.specs.Plain.{is_part}
-use Rattle.order_book.specs.declared.depths.Depths.{Depths}
 use Rattle.order_book.specs.declared.held.Held.{Held}
 use Rattle.order_book.specs.declared.total.Part.TheVariants.{BuysFrom, BuysAbove, SellsTo, SellsBelow}
 use Rattle.order_book.proofs.BookLemmas.{buys-sum, few, nodes, on-grid, orders-of, sells-sum, total-fits}
@@ -86,7 +85,7 @@ module _ (i : ℕ) where
     pub below-are : total_left (is_part (SellsTo i)) os ≡ total_left (is_part (SellsBelow i)) os + total_left (is_on_level Sell (At i)) os
     below-are = total-joined (is_part (SellsBelow i)) (is_on_level Sell (At i)) (is_part (SellsTo i)) (λ o. split-below o.side o.spot o.left o) os
 
-module _ (n c b : ℕ) (held : Lists Held) (levels owners : Lists ℕ) (d : Depths) (is : IsLinked n c b held levels owners d) (now : BookView) (view : linked n c held.lists ≡ now) where
+module _ (n c b : ℕ) (held : Lists Held) (levels owners : Lists ℕ) (d : DepthView) (is : IsLinked n c b held levels owners d) (now : BookView) (view : linked n c held.lists ≡ now) where
   abbrev os : List Order
   os = orders_in (nodes n c b held levels owners d is now view)
 

@@ -17,10 +17,9 @@ use Rattle.mkt_base.specs.declared.order.Spot.{Spot}
 use Rattle.mkt_base.specs.declared.order.Spot.TheVariants.{Market, At}
 use Rattle.mkt_base.specs.declared.order.Order.{Order}
 use Rattle.book_law.specs.BookView.{IsSpotBelow, less}
-use Rattle.order_book.specs.Depths.{AreDepthsOf, IsEmptyWithin, IsFirstFrom, IsLastBelow, by_spot, depth_at, fewer, is_limit_buy, more}
+use Rattle.order_book.specs.Depths.{AreDepthsOf, DepthView, IsEmptyWithin, IsFirstFrom, IsLastBelow, by_spot, depth_at, fewer, is_limit_buy, more}
 use Rattle.order_book.specs.Limits.{is_limit_within}
 use Rattle.order_book.specs.Linked.{AreApart, orders_in}
-use Rattle.order_book.specs.declared.depths.Depths.{Depths}
 use Rattle.order_book.specs.declared.held.Held.{Held}
 use Rattle.order_book.proofs.FiledLemmas.{each-weaker, find-cases}
 
@@ -139,7 +138,7 @@ module _ (h : ℕ) (t : Linked Held) (p : Order → Bool) where
 level_test : Side → Spot → Side → Spot → Bool
 level_test s t side spot = is_same_side s side && is_same_spot t spot
 
-module _ (n : ℕ) (d : Depths) (os os' : List Order) (qty : ℕ) (is : AreDepthsOf n d os) where
+module _ (n : ℕ) (d : DepthView) (os os' : List Order) (qty : ℕ) (is : AreDepthsOf n d os) where
   -- so much more is left on a level
   pub depths-more : (side : Side) (spot : Spot) → IsSpotBelow n spot
       → ((q : Side → Spot → Bool) → total_left (by_spot q) os' ≡ total_left (by_spot q) os + cond (q side spot) qty 0) → AreDepthsOf n (more side spot qty d) os'
@@ -263,7 +262,7 @@ module _ (n : ℕ) (d : Depths) (os os' : List Order) (qty : ℕ) (is : AreDepth
       }
 
 -- a level's number is what its orders have left
-pub depth-is : (n : ℕ) (d : Depths) (os : List Order) → AreDepthsOf n d os → (side : Side) (spot : Spot) → IsSpotBelow n spot → depth_at side spot d ≡ total_left (is_on_level side spot) os
+pub depth-is : (n : ℕ) (d : DepthView) (os : List Order) → AreDepthsOf n d os → (side : Side) (spot : Spot) → IsSpotBelow n spot → depth_at side spot d ≡ total_left (is_on_level side spot) os
 depth-is n d os is Buy Market below = is.market_buys
 depth-is n d os is Sell Market below = is.market_sells
 depth-is n d os is Buy (At i) below = is.buys i below

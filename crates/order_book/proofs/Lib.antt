@@ -10,6 +10,7 @@ pub mod SumLemmas
 pub mod ViewLemmas
 pub mod FiledLemmas
 pub mod DepthLemmas
+pub mod BestLemmas
 pub mod BookLemmas
 pub mod OwnLemmas
 pub mod CountedLemmas

@@ -13,10 +13,9 @@ use Rattle.mkt_base.specs.declared.order.Spot.{Spot}
 use Rattle.mkt_base.specs.declared.order.Spot.TheVariants.{Market, At}
 use Rattle.mkt_base.specs.declared.order.Order.{Order}
 use Rattle.book_law.specs.BookView.{BookView, IsBookView, IsSpotBelow, Names, NamesFirst, orders, side_of, slot_of}
-use Rattle.order_book.specs.Depths.{IsNextBehind, IsNoneBehind, depth_at}
+use Rattle.order_book.specs.Depths.{DepthView, IsNextBehind, IsNoneBehind, depth_at}
 use Rattle.order_book.specs.Linked.{IsLinked, filed_at, level_at, level_key, level_no, linked, orders_in}
 use Rattle.order_book.specs.Plain.{FindsFirst, IsFirstBy, is_ahead, is_behind, is_wanted, plain, rank}
-use Rattle.order_book.specs.declared.depths.Depths.{Depths}
 use Rattle.order_book.specs.declared.held.Held.{Held}
 use Rattle.order_book.proofs.BookLemmas.{level-within, names-node, nodes, on-grid, orders-of, somes}
 use Rattle.order_book.proofs.DepthLemmas.{depth-is, total-zero}
@@ -79,7 +78,7 @@ first-of-rank n side t p os f has passes wanted equal worse =
     by_test x true e so equal worse = let same = equal e in not-ahead (rank n side x.spot) x.place (rank n side f.spot) f.place (sym same.1) same.0
     by_test x false e so equal worse = worse-not-ahead (rank n side x.spot) x.place (rank n side f.spot) f.place (worse so e)
 
-module _ (n c b : ℕ) (held : Lists Held) (levels owners : Lists ℕ) (d : Depths) (is : IsLinked n c b held levels owners d) (now : BookView) (view : linked n c held.lists ≡ now) where
+module _ (n c b : ℕ) (held : Lists Held) (levels owners : Lists ℕ) (d : DepthView) (is : IsLinked n c b held levels owners d) (now : BookView) (view : linked n c held.lists ≡ now) where
   abbrev ns : List (Linked Held)
   ns = nodes n c b held levels owners d is now view
 

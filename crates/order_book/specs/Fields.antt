@@ -4,11 +4,11 @@ use Rattle.std.specs.Prelude.{ℕ, List}
 use Rattle.order_list.specs.Lists.{Linked, Lists}
 use Rattle.book_law.specs.BookView.{BookView}
 use Rattle.order_book.specs.Linked.{IsLinked, linked}
-use Rattle.order_book.specs.declared.depths.Depths.{Depths}
+use Rattle.order_book.specs.Depths.{DepthView}
 use Rattle.order_book.specs.declared.held.Held.{Held}
 
 -- what holds of the fields of every book
-unfoldable pub AreFields : ℕ → ℕ → ℕ → Lists Held → Lists ℕ → Lists ℕ → Depths → Type 0
+unfoldable pub AreFields : ℕ → ℕ → ℕ → Lists Held → Lists ℕ → Lists ℕ → DepthView → Type 0
 AreFields prices capacity buckets held levels owners depths = IsLinked prices capacity buckets held levels owners depths
 
 -- the book that they stand for

@@ -10,8 +10,7 @@ use Rattle.mkt_base.specs.declared.order.Spot.{Spot}
 use Rattle.mkt_base.specs.declared.order.Spot.TheVariants.{Market, At}
 use Rattle.mkt_base.specs.declared.order.Order.{Order}
 use Rattle.book_law.specs.BookView.{BookView, IsBookView, Slot, slot_of}
-use Rattle.order_book.specs.Depths.{AreDepthsOf}
-use Rattle.order_book.specs.declared.depths.Depths.{Depths}
+use Rattle.order_book.specs.Depths.{AreDepthsOf, DepthView}
 use Rattle.order_book.specs.declared.held.Held.{Held}
 
 -- the number of a level's list
@@ -66,7 +65,7 @@ pub record IsFiled (key : Order → ℕ) (at : Held → ℕ) (lists : List (List
 
 -- what holds of the orders by place and of where they are filed: the book stands; each order is filed in its level and its
 -- bucket, the levels' numbers are theirs, and there is room for as many orders as the book was made for
-pub record Holds (prices capacity buckets : ℕ) (ns : List (Linked Held)) (spare : ℕ) (levels owners : Lists ℕ) (d : Depths) : Type 0 where
+pub record Holds (prices capacity buckets : ℕ) (ns : List (Linked Held)) (spare : ℕ) (levels owners : Lists ℕ) (d : DepthView) : Type 0 where
   pub book : IsBookView (record { prices = prices; capacity = capacity; slots = map slot_at ns })
   pub apart : AreApart (λ n. n.link) ns
   pub by_level : IsFiled level_key level_at levels.lists ns
@@ -80,6 +79,6 @@ pub record Holds (prices capacity buckets : ℕ) (ns : List (Linked Held)) (spar
   pub owner_room : capacity ≤ owners.spare + length ns
 
 -- the same of the fields, where one list has the orders by place
-pub record IsLinked (prices capacity buckets : ℕ) (held : Lists Held) (levels owners : Lists ℕ) (d : Depths) : Type 0 where
+pub record IsLinked (prices capacity buckets : ℕ) (held : Lists Held) (levels owners : Lists ℕ) (d : DepthView) : Type 0 where
   pub one : length held.lists ≡ 1
   pub holds : Holds prices capacity buckets (list_at held.lists 0) held.spare levels owners d

@@ -210,8 +210,10 @@ impl Book {
     {
         let bought = self.depths.upto(Side::Buy, i, steps);
         let sold = self.depths.upto(Side::Sell, i, steps);
-        let above = self.depths.market_buys + (self.depths.limit_buys - bought);
-        let sells = self.depths.market_sells + sold;
+        let market_buys = self.depths.at(Side::Buy, Spot::Market);
+        let market_sells = self.depths.at(Side::Sell, Spot::Market);
+        let above = market_buys + (self.depths.limit_buys() - bought);
+        let sells = market_sells + sold;
         Levels {
             buys: above + self.depths.at(Side::Buy, Spot::At(i)),
             above,

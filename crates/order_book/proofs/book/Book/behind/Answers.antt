@@ -1,18 +1,12 @@
 use Rattle.std.proofs.Common.{sym, ◌∙◌}
 use Rattle.order_book.specs.Fields.{AreFields, book_of}
-use Rattle.order_book.proofs.CountedLemmas.{limits-sum, sells-fit}
+use Rattle.order_book.proofs.CountedLemmas.{sells-fit}
 use Rattle.order_book.proofs.PriorityLemmas.{behind-some, behind-there, none-behind-now}
 use Rattle.order_book.proofs.book.Book.behind.Goals as goal
 
 pub behind-requires-clause-prices : goal.behind-requires-clause-prices
 unfolding AreFields book_of
 behind-requires-clause-prices c = c.self.invariant.holds.book.some_price
-
-pub behind-requires-clause-limits : goal.behind-requires-clause-limits
-unfolding AreFields book_of
-behind-requires-clause-limits c =
-    let f = c.self.inside in
-    limits-sum f.prices f.capacity f.buckets f.held f.levels f.owners f.depths c.self.invariant c.args.self.now c.self.view_is
 
 pub behind-requires-clause-fits : goal.behind-requires-clause-fits
 unfolding AreFields book_of

@@ -5,6 +5,7 @@ use Rattle.order_book.specs.Fields.{AreFields, book_of}
 use Rattle.order_book.specs.Depths.{depth_at, fewer, is_limit_buy}
 use Rattle.order_book.specs.declared.held.Held.{Held}
 use Rattle.order_book.proofs.BookLemmas.{held-live, kept, named, node-buys, node-enough, node-limit, node-sells, read-is, reduced-linked, reduced-view}
+use Rattle.order_book.proofs.CountedLemmas.{limits-sum}
 use Rattle.order_book.proofs.book.Book.reduce.Goals as goal
 
 pub item_mut-held-requires : goal.item_mut-held-requires
@@ -50,6 +51,12 @@ sub-requires-clause-limit_bought c =
     let is = read-is f.prices f.capacity f.buckets f.held f.levels f.owners f.depths c.self.invariant c.args.self.now c.self.view_is c.args.handle c.requires.live c.link.result c.item_mut-held.result.now c.link.ensures c.item_mut-held.ensures.item in
     let less = c.requires.less (kept f.prices f.capacity f.buckets f.held f.levels f.owners f.depths c.self.invariant c.args.self.now c.self.view_is c.args.handle c.requires.live).order (named f.prices f.capacity f.buckets f.held f.levels f.owners f.depths c.self.invariant c.args.self.now c.self.view_is c.args.handle c.requires.live) in
     subst (λ (y : Held). is_limit_buy y.order.side y.order.spot ≡ true → c.args.by ≤ f.depths.limit_buys) (sym is) (λ so. omega (arith, less, node-limit f.prices f.capacity f.buckets f.held f.levels f.owners f.depths c.self.invariant c.args.self.now c.self.view_is c.args.handle c.requires.live so))
+
+pub sub-requires-clause-limits : goal.sub-requires-clause-limits
+unfolding AreFields book_of
+sub-requires-clause-limits c =
+    let f = c.self.inside in
+    limits-sum f.prices f.capacity f.buckets f.held f.levels f.owners f.depths c.self.invariant c.args.self.now c.self.view_is
 
 pub invariant_of-self : goal.invariant_of-self
 unfolding AreFields book_of

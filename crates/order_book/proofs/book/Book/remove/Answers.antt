@@ -6,6 +6,7 @@ use Rattle.order_book.specs.Depths.{depth_at, fewer, is_limit_buy}
 use Rattle.order_book.specs.Linked.{level_key, owner_key}
 use Rattle.order_book.specs.declared.held.Held.{Held}
 use Rattle.order_book.proofs.BookLemmas.{held-live, kept, level-in, named, node-buys, node-enough, node-limit, node-sells, owner-in, read-is, removed-linked, removed-view}
+use Rattle.order_book.proofs.CountedLemmas.{limits-sum}
 use Rattle.order_book.proofs.book.Book.remove.Goals as goal
 
 pub unlink-filed-requires : goal.unlink-filed-requires
@@ -55,6 +56,12 @@ sub-requires-clause-limit_bought c =
     let f = c.self.inside in
     let is = read-is f.prices f.capacity f.buckets f.held f.levels f.owners f.depths c.self.invariant c.args.self.now c.self.view_is c.args.handle c.requires c.link.result c.unlink-filed.result c.link.ensures c.unlink-filed.ensures.item in
     subst (λ (y : Held). is_limit_buy y.order.side y.order.spot ≡ true → y.order.left ≤ f.depths.limit_buys) (sym is) (node-limit f.prices f.capacity f.buckets f.held f.levels f.owners f.depths c.self.invariant c.args.self.now c.self.view_is c.args.handle c.requires)
+
+pub sub-requires-clause-limits : goal.sub-requires-clause-limits
+unfolding AreFields book_of
+sub-requires-clause-limits c =
+    let f = c.self.inside in
+    limits-sum f.prices f.capacity f.buckets f.held f.levels f.owners f.depths c.self.invariant c.args.self.now c.self.view_is
 
 pub invariant_of-self : goal.invariant_of-self
 unfolding AreFields book_of
