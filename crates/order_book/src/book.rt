@@ -66,8 +66,9 @@ impl Book {
         requires few { prices ≤ 20000 }
         ensures { IfOk result (λ book. book ≡ record { prices = prices; capacity = capacity; slots = [] }) }
     {
-        // Odd, so that the numbers of one caller, 64 apart, take all buckets in turn.
-        let buckets = capacity / 2 * 2 + 1;
+        // A fourth of the room: where all of it is taken a bucket has four orders, and most days leave most of it. Odd, so that the
+        // numbers of one caller, 64 apart, take all buckets in turn.
+        let buckets = capacity / 8 * 2 + 1;
         Ok(Book {
             prices,
             capacity,
