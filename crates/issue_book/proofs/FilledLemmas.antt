@@ -177,6 +177,17 @@ arrived-filled o s a last pair both =
           (rest-key o a.left mine place));
     }
 
+-- what it has left is what its arrival left it
+pub arrived-left : (o : Order) (s : State) (a : Arrival) → IsFilled o.caller o.own o.place o.left (arrived o s a) → traded_at a.trades o.place + a.left ≡ o.left
+    → a.left ≡ left_of o.caller o.own (arrived o s a).state
+arrived-left o s a filled both =
+    let told : traded_at (filter_map trade_in (trade_outputs a.trades)) o.place ≡ traded_at a.trades o.place = ap (λ ts. traded_at ts o.place) (trades-told a.trades) in
+    omega (arith, told, filled.fills, both)
+
+-- an order that joins has all left
+pub join-left : (o : Order) (s : State) → IsFilled o.caller o.own o.place o.left (join o s) → o.left ≡ left_of o.caller o.own (join o s).state
+join-left o s filled = omega (arith, none-traded o.place, filled.fills)
+
 -- no more is traded at the place of a caller's order than it has left, and nothing where there is none
 within-left : (caller : Caller) (own place : ℕ) (ts : List Trade) (os : List Order) → AllByRecursion (KeyOf caller own place) os → AllByRecursion (λ o. traded_at ts o.place ≤ o.left) os
     → (AllByRecursion (λ o. place ≢ o.place) os → traded_at ts place ≡ 0) → traded_at ts place ≤ left_in caller own place os

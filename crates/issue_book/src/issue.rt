@@ -47,7 +47,7 @@ use std::alloc::Global;
 use std::marker::{Brand, Model};
 use std::sync::ledger::Blank;
 use tick_grid::{BandRow, Grid, down, up};
-use zaraba::{Stop, incoming, last_is_near, none_fills_more, sequence_is_beyond, trades_stand};
+use zaraba::{Arrived, incoming, last_is_near, none_fills_more, sequence_is_beyond, trades_stand};
 
 /// Why there is no book of an issue.
 #[derive(Clone, Copy, Debug, PartialEq, Eq)]
@@ -414,15 +414,16 @@ impl IssueBook {
         uncounted::<Brand>(&self.book, &self.grid, window, Blank::new(1))
     }
 
-    /// Lets an order trade at once with what it crosses, as far as prices reach, and answers why it stopped.
-    pub fn arrive<W: Watch>(&mut self, order: Order, watch: &mut W) -> Stop
+    /// Lets an order trade at once with what it crosses, as far as prices reach, and answers why it stopped and what it has left.
+    pub fn arrive<W: Watch>(&mut self, order: Order, watch: &mut W) -> Arrived
         requires enters { MayEnter self.old order }
         requires calm { IsTrue (is_calm self.old.terms.grid self.old.state.orders) }
-        ensures stop { result ≡ (arrival_at self.old.terms order self.old.state).stop }
+        ensures stop { result.stop ≡ (arrival_at self.old.terms order self.old.state).stop }
+        ensures left { result.left ≡ left_of order.caller order.own (arrived order self.old.state (arrival_at self.old.terms order self.old.state)).state }
         ensures state { self.new ≡ in_state (arrived order self.old.state (arrival_at self.old.terms order self.old.state)).state self.old }
-        ensures calm { result ≡ Done → IsTrue (is_calm self.old.terms.grid self.new.state.orders) }
+        ensures calm { result.stop ≡ Done → IsTrue (is_calm self.old.terms.grid self.new.state.orders) }
         ensures near { distance self.old.state.last self.new.state.last ≤ 2 * band_of self.old.terms.ranges self.old.state.last }
-        ensures side { (side : Side) → result ≡ Sequence side → side ≡ order.side }
+        ensures side { (side : Side) → result.stop ≡ Sequence side → side ≡ order.side }
         ensures filled { IsFilled order.caller order.own order.place order.left (arrived order self.old.state (arrival_at self.old.terms order self.old.state)) }
         ensures told { (from : W) (outputs : List Output) → W.took from outputs watch.old
             → W.took from (outputs ++ (arrived order self.old.state (arrival_at self.old.terms order self.old.state)).outputs) watch.new }
@@ -442,7 +443,7 @@ impl IssueBook {
             watch,
         );
         self.last = arrived.last;
-        arrived.stop
+        arrived
     }
 
     /// Tells the auction of an answer and does its fills, by time.

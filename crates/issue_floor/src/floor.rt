@@ -137,15 +137,16 @@ impl Floor {
 
     /// Lets an order enter. Where orders trade and no quote is shown, it trades at once with what it crosses, and what it has left
     /// joins the book; where it stops at a gap a special quote begins, and where it would go too far a sequential one. Else it joins
-    /// the book, and nothing is told.
-    pub fn enter<W: Watch>(&mut self, order: Order, watch: &mut W)
+    /// the book, and nothing is told. Answers what it has left, in shares.
+    pub fn enter<W: Watch>(&mut self, order: Order, watch: &mut W) -> u64
         requires { MayEnter self.old order }
         ensures state { self.new ≡ in_state (enter self.old.terms order self.old.state).state self.old }
         ensures filled { IsFilled order.caller order.own order.place order.left (enter self.old.terms order self.old.state) }
+        ensures left { result ≡ left_of order.caller order.own (enter self.old.terms order self.old.state).state }
         ensures told { (from : W) (outputs : List Output) → W.took from outputs watch.old
             → W.took from (outputs ++ (enter self.old.terms order self.old.state).outputs) watch.new }
     {
-        entering::enter(&mut self.book, order, watch);
+        entering::enter(&mut self.book, order, watch)
     }
 
     /// Tries the quote once, if one is shown: what follows an event. Where its own side presses nothing happens and nothing is told.

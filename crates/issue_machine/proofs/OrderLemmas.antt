@@ -1,7 +1,7 @@
 -- Orders that enter, change and leave: what they fill, and that they may.
 use Rattle.std.proofs.Common.{◌≡◌, ℕ, ◌+◌, ◌-◌, ◌%◌, ◌<◌, ◌≤◌, Bool, true, false, cond, not, eqb, leb, ◌&&◌, ◌||◌, List, [], ◌∷◌, ◌++◌, length, map, filter, All, Option, None, Some, refl, sym, ap, subst, ◌∙◌, arith, append-nil}
 use Rattle.std.specs.List.{AllByRecursion, filter_map, find}
-use Rattle.std.specs.Option.{is_none, option_map, option_map_or, unwrap_or}
+use Rattle.std.specs.Option.{is_none, is_some, option_map, option_map_or, unwrap_or}
 use Rattle.std.proofs.lemmas.Bool.{and_parts, eqb-true, eq-eqb, leb-true, ne_eqb, not-true}
 use Rattle.std.proofs.lemmas.List.Elements.{All-filter, All-from_recursion, All-map, All-weaker, filter_map-append, filter_passes, recursion_from_All}
 use Rattle.std.proofs.lemmas.List.Quantifiers.{position-Some}
@@ -20,6 +20,7 @@ use Rattle.mkt_base.specs.declared.order.Side.{Side}
 use Rattle.mkt_base.specs.declared.order.Spot.{Spot}
 use Rattle.mkt_base.specs.declared.order.Spot.TheVariants.{At, Market}
 use Rattle.mkt_base.specs.declared.output.Output.{Output}
+use Rattle.mkt_base.specs.declared.quote.Quote.{Quote}
 use Rattle.mkt_base.specs.declared.units.Caller.{Caller}
 use Rattle.mkt_base.specs.declared.units.Participant.{Participant}
 use Rattle.mkt_base.specs.declared.units.Price.{Price}
@@ -30,7 +31,7 @@ use Rattle.book_law.proofs.Pairs.{Pairs, pairs-from_AllPairs}
 use Rattle.issue_book.specs.Entering.{enter, lower, lowered, named, spot_of, take_out}
 use Rattle.issue_book.specs.Filled.{IsFilled, IsKey, filled_on, left_of, trade_in}
 use Rattle.issue_book.specs.IssueView.{IsIssue, IsTaken, IssueView, MayEnter, in_state}
-use Rattle.issue_book.specs.Quoting.{try_quote}
+use Rattle.issue_book.specs.Quoting.{is_trading, try_if_shown, try_quote}
 use Rattle.issue_book.specs.State.{Move, State, Terms, stay, ◌then◌}
 use Rattle.issue_machine.specs.Answering.{Replied, accepted, bad_price, bad_qty, change_named, change_to, changed, closed, first_reason, is_quantity, not_yours, order_of, take_change, take_order, unknown, unless}
 use Rattle.issue_machine.specs.Replying.{IsAccepted, IsOwn, WasLeft, WasMoved, WasReplied, not_own}
@@ -165,6 +166,24 @@ entered o v mid new m next left is after first more e =
       left = rest;
       filled = omega (arith, filled-then o.place m.outputs (next v.terms m.state).outputs, first.fills, second.fills, rest);
     }
+
+pub none-shown : (q : Option Quote) → is_some q ≡ false → q ≡ None
+none-shown None e = refl
+none-shown (Some q) e = absurd (cc)
+
+-- where no quote is shown nothing is tried
+unshown : (t : Terms) (s : State) → s.quote ≡ None → (try_quote t s).state ≡ s
+unshown t s none = by_phase (is_trading s.phase)
+  where
+    by_phase : (b : Bool) → (cond b (try_if_shown t s.quote s) (stay s)).state ≡ s
+    by_phase true = ap (λ (q : Option Quote). (try_if_shown t q s).state) none
+    by_phase false = refl
+
+-- and the order has left what it had
+pub untried : (o : Order) (mid new : IssueView) (left : ℕ) → mid.state.quote ≡ None → new ≡ in_state (try_quote mid.terms mid.state).state mid → left ≡ left_of o.caller o.own mid.state
+    → left ≡ left_of o.caller o.own new.state
+untried o mid new left none after is =
+    is ∙ ap (λ (s : State). left_of o.caller o.own s) (sym (unshown mid.terms mid.state none)) ∙ ap (λ (x : IssueView). left_of o.caller o.own x.state) (sym after)
 
 -- ---- the order's place is its alone
 

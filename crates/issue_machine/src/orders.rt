@@ -42,9 +42,15 @@ fn enter<W: Watch>(floor: &mut Floor, order: Order, watch: &mut W) -> u64
     ensures moved { WasMoved W.took (enter floor.old.terms order floor.old.state then try_quote floor.old.terms) floor.old floor.new watch.old watch.new }
     ensures left { WasLeft order (enter floor.old.terms order floor.old.state then try_quote floor.old.terms) result }
 {
-    floor.enter(order, watch);
+    let left = floor.enter(order, watch);
+    let quoted = floor.quote().is_some();
     floor.try_quote(watch);
-    left_of(floor, order.caller, order.own)
+    // (where no quote is shown nothing was tried, and the order has what it had)
+    if quoted {
+        left_of(floor, order.caller, order.own)
+    } else {
+        left
+    }
 }
 
 /// Does an order event.

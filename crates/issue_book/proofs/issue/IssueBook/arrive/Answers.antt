@@ -7,10 +7,10 @@ use Rattle.book_law.specs.BookView.{orders}
 use Rattle.zaraba.specs.Arrival.{arrival, book_after}
 use Rattle.issue_book.specs.Entering.{arrival_at, arrived}
 use Rattle.issue_book.specs.Fields.{IsInUnits, state_in, terms_in}
-use Rattle.issue_book.specs.Filled.{IsFilled}
+use Rattle.issue_book.specs.Filled.{IsFilled, left_of}
 use Rattle.issue_book.specs.IssueView.{MayEnter}
 use Rattle.issue_book.proofs.FieldLemmas.{arrives, arriving, enters-fresh, keeps-at}
-use Rattle.issue_book.proofs.FilledLemmas.{arrived-filled}
+use Rattle.issue_book.proofs.FilledLemmas.{arrived-filled, arrived-left}
 use Rattle.issue_book.proofs.issue.IssueBook.arrive.Goals as goal
 
 pub incoming-arrived-requires-clause-order : goal.incoming-arrived-requires-clause-order
@@ -57,3 +57,15 @@ returns-clause-filled g c =
     let law = (c.none_fills_more.ensures f.grid (band_of f.ranges) (orders f.book) o (price_at f.grid f.last) (arriving f o c.stands.ensures.book c.self.invariant c.stands-2.ensures.rising may)).1 in
     subst (λ v. IsFilled o.caller o.own o.place o.left (arrived o v.state (arrival_at v.terms o v.state))) c.self.view_is
     (arrived-filled o (state_in f) (arrival_at (terms_in f) o (state_in f)) may.last may.pair law)
+
+pub returns-clause-left : goal.returns-clause-left
+returns-clause-left g c =
+    let f = c.self.inside in
+    let o = c.args.order in
+    let s = state_in f in
+    let a = arrival_at (terms_in f) o s in
+    let may = subst (λ v. MayEnter v o) (sym c.self.view_is) c.requires.enters in
+    let law = (c.none_fills_more.ensures f.grid (band_of f.ranges) (orders f.book) o (price_at f.grid f.last) (arriving f o c.stands.ensures.book c.self.invariant c.stands-2.ensures.rising may)).1 in
+    let left = subst (λ r. c.incoming-arrived.result.left ≡ (arrival f.grid (band_of r) (orders f.book) o (price_at f.grid f.last)).left) c.as_slice.ensures c.incoming-arrived.ensures.left in
+    subst (λ v. c.incoming-arrived.result.left ≡ left_of o.caller o.own (arrived o v.state (arrival_at v.terms o v.state)).state) c.self.view_is
+    (left ∙ arrived-left o s a (arrived-filled o s a may.last may.pair law) law)
