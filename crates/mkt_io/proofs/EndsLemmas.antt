@@ -49,27 +49,27 @@ ends-first line h =
     trailing_mask_l is_blank 64 (line ++ 32 ∷ []) (omega (arith, length-append line (32 ∷ []), h)) (ends-some line) ∙ position_or_len_push is_blank line 32
     ∙ at-end (position_or_len is_blank line) (length line)
 
--- sixteen bytes more in front
-pub ends-step : (line : List ℕ) (at ends : ℕ) → 16 ≤ at → at ≤ length line → length line < 64 → ends ≡ ends_of (drop at line)
-    → ends_of (drop (at - 16) line) ≡ mask_l (map is_blank (take 16 (drop (at - 16) line))) + 65536 * ends
-ends-step line at ends low high short is =
-    let piece = chunk (at - 16) 16 line in
-    let long : length piece ≡ 16 = length-chunk (at - 16) 16 line (omega arith) in
-    let back : at - 16 + 16 ≡ at = omega arith in
-    ap ends_of (chunk-drop (at - 16) 16 line) ∙ ends-more piece (drop (at - 16 + 16) line) ∙ rw (long, back, ← is) refl
+-- some bytes more in front
+pub ends-step : (width : ℕ) (line : List ℕ) (at ends : ℕ) → width ≤ at → at ≤ length line → ends ≡ ends_of (drop at line)
+    → ends_of (drop (at - width) line) ≡ mask_l (map is_blank (take width (drop (at - width) line))) + 2 ^ width * ends
+ends-step width line at ends low high is =
+    let piece = chunk (at - width) width line in
+    let long : length piece ≡ width = length-chunk (at - width) width line (omega (arith, low, high)) in
+    let back : at - width + width ≡ at = omega (arith, low) in
+    ap ends_of (chunk-drop (at - width) width line) ∙ ends-more piece (drop (at - width + width) line) ∙ rw (long, back, ← is) refl
 
--- the last bytes, fewer than sixteen
-pub ends-last : (line : List ℕ) (over : ℕ) → over < 16 → 16 ≤ length line
-    → ends_of (drop (length line - over) line) ≡ mask_l (map is_blank (take 16 (drop (length line - 16) line))) / 2 ^ (16 - over) + 2 ^ over
-ends-last line over low long =
-    let last = drop (length line - 16) line in
+-- the last bytes, fewer than a piece has
+pub ends-last : (width : ℕ) (line : List ℕ) (over : ℕ) → over < width → width ≤ length line
+    → ends_of (drop (length line - over) line) ≡ mask_l (map is_blank (take width (drop (length line - width) line))) / 2 ^ (width - over) + 2 ^ over
+ends-last width line over low long =
+    let last = drop (length line - width) line in
     let tail = drop (length line - over) line in
-    let all : take 16 last ≡ last = take_all 16 last (omega (arith, length-drop (length line - 16) line, long)) in
-    let at : length line - 16 + (16 - over) ≡ length line - over = omega (arith, low, long) in
-    let same : drop (16 - over) last ≡ tail = rw (drop-drop (16 - over) (length line - 16) line, at) refl in
+    let all : take width last ≡ last = take_all width last (omega (arith, length-drop (length line - width) line, long)) in
+    let at : length line - width + (width - over) ≡ length line - over = omega (arith, low, long) in
+    let same : drop (width - over) last ≡ tail = rw (drop-drop (width - over) (length line - width) line, at) refl in
     let few : length tail ≡ over = omega (arith, length-drop (length line - over) line, low, long) in
-    let mask : mask_l (map is_blank (take 16 last)) / 2 ^ (16 - over) ≡ mask_l (map is_blank tail) =
-    rw all (sym (mask-drop (16 - over) (map is_blank last)) ∙ ap mask_l (drop-map is_blank (16 - over) last ∙ ap (map is_blank) same)) in
+    let mask : mask_l (map is_blank (take width last)) / 2 ^ (width - over) ≡ mask_l (map is_blank tail) =
+    rw all (sym (mask-drop (width - over) (map is_blank last)) ∙ ap mask_l (drop-map is_blank (width - over) last ∙ ap (map is_blank) same)) in
     let more : ends_of tail ≡ mask_l (map is_blank tail) + 2 ^ length tail * 1 = ap ends_of (sym (append-nil tail)) ∙ ends-more tail [] in
     let power : 2 ^ length tail ≡ 2 ^ over = ap (λ n. 2 ^ n) few in
     omega (arith, mask, more, power)

@@ -1,8 +1,14 @@
 -- A list that is tested in parts, which may overlap.
-use Rattle.std.proofs.Common.{◌≡◌, ℕ, zero, suc, ◌+◌, ◌≤◌, Bool, true, false, ◌&&◌, List, [], ◌∷◌, take, drop, refl, sym, ap, ◌∙◌, arith}
+use Rattle.std.proofs.Common.{◌≡◌, ℕ, zero, suc, ◌+◌, ◌≤◌, Bool, true, false, not, ◌&&◌, ◌||◌, eqb, ltb, List, [], ◌∷◌, take, drop, refl, sym, ap, ◌∙◌, arith}
 use Rattle.std.proofs.lemmas.List.Folds.{list_all-append}
 use Rattle.std.proofs.Math.Seq.{take-add}
 use Rattle.std.specs.List.{list_all}
+use Rattle.std.proofs.lemmas.Bool.Decides.{nat_tests}
+use Rattle.mkt_io.specs.Words.{is_text_byte}
+
+-- a byte that is no text is low and no tab, or high
+pub text-byte : (b : ℕ) → not ((ltb b 32 && not (eqb b 9)) || ltb 126 b) ≡ is_text_byte b
+text-byte b = grind (arith, nat_tests)
 
 module _ (passes : ℕ → Bool) where
   both : (a b c : Bool) → ((a && b) && c) ≡ (a && (b && c))

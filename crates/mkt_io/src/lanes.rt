@@ -1,4 +1,4 @@
-// Tests of the bytes of a line, sixteen at a time.
+// Tests of the bytes of a line, sixteen at a time, or eight where a line has fewer than sixteen.
 ghost use Rattle.std.specs.Prelude.{◌≡◌, ◌+◌, ◌<◌, ◌≤◌, length, map, take, drop};
 ghost use Rattle.std.specs.List.{list_all};
 ghost use Rattle.std.specs.Simd.Lanes.{mask_l};
@@ -11,6 +11,9 @@ use std::simd::prelude::*;
 // How many bytes are tested at a time.
 const LANES: usize = 16;
 
+// And how many of a line that has fewer.
+const HALF: usize = 8;
+
 // The longest line whose word ends have room in 64 bits, with one for the end of the line.
 const SHORT: usize = 63;
 
@@ -22,6 +25,16 @@ fn blanks_at(line: &[u8], at: usize) -> u64
 {
     let bytes = u8x16::from_slice(&line[at..]);
     bytes.simd_eq(u8x16::splat(b' ')).to_bitmask() | bytes.simd_eq(u8x16::splat(b'\t')).to_bitmask()
+}
+
+// Which of eight bytes are blanks.
+#[inline(always)]
+fn blanks_of_eight(line: &[u8], at: usize) -> u64
+    requires { at + 8 ≤ length line.now }
+    ensures { result ≡ mask_l (map is_blank (take 8 (drop at line.now))) }
+{
+    let bytes = u8x8::from_slice(&line[at..]);
+    bytes.simd_eq(u8x8::splat(b' ')).to_bitmask() | bytes.simd_eq(u8x8::splat(b'\t')).to_bitmask()
 }
 
 // Whether sixteen bytes are text.
@@ -37,6 +50,19 @@ fn is_text_at(line: &[u8], at: usize) -> bool
     low & no_tab | high == 0
 }
 
+// Whether eight bytes are text.
+#[inline(always)]
+fn is_text_of_eight(line: &[u8], at: usize) -> bool
+    requires { at + 8 ≤ length line.now }
+    ensures { result ≡ list_all is_text_byte (take 8 (drop at line.now)) }
+{
+    let bytes = u8x8::from_slice(&line[at..]);
+    let low = bytes.simd_lt(u8x8::splat(b' ')).to_bitmask();
+    let no_tab = bytes.simd_ne(u8x8::splat(b'\t')).to_bitmask();
+    let high = bytes.simd_gt(u8x8::splat(b'~')).to_bitmask();
+    low & no_tab | high == 0
+}
+
 // Where the words of a line end: bit k is set where byte k is a blank, and the bit behind the last byte. 0 where the line
 // has more than 63 bytes.
 #[inline(always)]
@@ -48,7 +74,7 @@ pub(crate) fn ends_of(line: &[u8]) -> u64
         return 0;
     }
     if n < LANES {
-        return ends_before(line, n, 1);
+        return short_ends(line);
     }
     let over = n % LANES;
     let mut ends = (blanks_at(line, n - LANES) >> (LANES - over)) + (1 << over);
@@ -58,6 +84,21 @@ pub(crate) fn ends_of(line: &[u8]) -> u64
         ends = (ends << LANES) + blanks_at(line, at);
     }
     ends
+}
+
+// The same of a line of fewer than sixteen bytes.
+#[inline(always)]
+fn short_ends(line: &[u8]) -> u64
+    requires { length line.now < 16 }
+    ensures { result ≡ ends_of line.now }
+{
+    let n = line.len();
+    if n < HALF {
+        return ends_before(line, n, 1);
+    }
+    let over = n - HALF;
+    let last = (blanks_of_eight(line, over) >> (HALF - over)) + (1 << over);
+    (last << HALF) + blanks_of_eight(line, 0)
 }
 
 // The same of a whole line, from those of what stands from `from` on.
@@ -83,7 +124,7 @@ pub fn is_text(line: &[u8]) -> bool
 {
     let n = line.len();
     if n < LANES {
-        return all_text(line);
+        return is_short_text(line);
     }
     // The last bytes are one more piece, which may overlap the one before it.
     let mut all = is_text_at(line, n - LANES);
@@ -91,6 +132,19 @@ pub fn is_text(line: &[u8]) -> bool
         all &= is_text_at(line, LANES * i);
     }
     all
+}
+
+// The same of a line of fewer than sixteen bytes.
+#[inline(always)]
+fn is_short_text(line: &[u8]) -> bool
+    requires { length line.now < 16 }
+    ensures { result ≡ list_all is_text_byte line.now }
+{
+    let n = line.len();
+    if n < HALF {
+        return all_text(line);
+    }
+    is_text_of_eight(line, 0) & is_text_of_eight(line, n - HALF)
 }
 
 // Whether bytes are text, one by one.

@@ -169,3 +169,24 @@ fn a_line_is_tested_in_order(rt: HostRuntime) {
         assert_eq!(rt; fault.map(LineFault::number), want, "at {number}");
     }
 }
+
+// Lines of these lengths are tested in pieces, which overlap or not, or byte by byte.
+#[test]
+fn each_byte_of_a_line_is_tested(rt: HostRuntime) {
+    for n in 1..=34 {
+        for at in 0..n {
+            let mut line = [b'a'; 34];
+            line[at] = 31;
+            let fault = checked_words(1, &line[..n]).err();
+            assert_eq!(rt; fault, Some(LineFault::NotText), "at {at} of {n}");
+            line[at] = b'\t';
+            let Ok(mut words) = checked_words(1, &line[..n]) else {
+                panic!(rt; "at {at} of {n}");
+            };
+            let first = if at == 0 { n - 1 } else { at };
+            let word = words.next().map(|word| word.len());
+            assert_eq!(rt; word, (first > 0).then_some(first), "at {at} of {n}");
+            assert_eq!(rt; words.at_end(), at == 0 || at + 1 == n, "at {at} of {n}");
+        }
+    }
+}

@@ -14,7 +14,7 @@ last-ends line blanks long short is =
     let over = length line % 16 in
     let few : over ≤ 15 = omega arith in
     let power = pow-le-pow_right {n = 2} (omega arith) {i = over} {j = 15} few in
-    let more = ends-last line over (omega arith) long in
+    let more = ends-last 16 line over (omega arith) long in
     let same : blanks / 2 ^ (16 - over) ≡ mask_l (map is_blank (take 16 (drop (length line - 16) line))) / 2 ^ (16 - over) = ap (λ n. n / 2 ^ (16 - over)) is in
     (omega (arith, more, power, same), ends-fit line (length line - over) 64 (omega arith) (omega arith))
 
@@ -32,7 +32,7 @@ overflow_add-ends-in-loop-at c =
     let at = c.loop-at.at in
     let low : 16 ≤ at = omega arith in
     let short : length line < 64 = omega arith in
-    let more = ends-step line at c.loop-at.ends low c.loop-at.invariant.within short c.loop-at.invariant.ends in
+    let more = ends-step 16 line at c.loop-at.ends low c.loop-at.invariant.within c.loop-at.invariant.ends in
     let fits = ends-fit line at 48 (omega arith) c.loop-at.invariant.within in
     let all = ends-fit line (at - 16) 64 (omega arith) (omega (arith, c.loop-at.invariant.within)) in
     omega (arith, more, fits, all, c.loop-at.invariant.ends, c.blanks_at-in-loop-at.ensures)
@@ -43,6 +43,6 @@ loop-at-preserved c =
     let at = c.loop-at.at in
     let low : 16 ≤ at = omega arith in
     let short : length line < 64 = omega arith in
-    let more = ends-step line at c.loop-at.ends low c.loop-at.invariant.within short c.loop-at.invariant.ends in
+    let more = ends-step 16 line at c.loop-at.ends low c.loop-at.invariant.within c.loop-at.invariant.ends in
     let fits = ends-fit line at 48 (omega arith) c.loop-at.invariant.within in
     record { ends = omega (arith, more, fits, c.loop-at.invariant.ends, c.blanks_at-in-loop-at.ensures); within = omega (arith, c.loop-at.invariant.within); whole = omega (arith, c.loop-at.invariant.whole) }

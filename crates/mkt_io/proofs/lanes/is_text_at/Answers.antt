@@ -1,16 +1,11 @@
-use Rattle.std.proofs.Common.{◌≡◌, ℕ, ◌%◌, ◌^◌, not, ◌&&◌, ◌||◌, eqb, ltb, map, replicate, ap, ◌∙◌, arith, w8}
+use Rattle.std.proofs.Common.{◌%◌, ◌^◌, not, ◌&&◌, ◌||◌, eqb, ltb, map, replicate, ap, ◌∙◌, arith, w8}
 use lib.Lanes.{chunk, mask_l}
 use Rattle.std.specs.List.{list_all}
-use Rattle.std.proofs.lemmas.Bool.Decides.{nat_tests}
 use Rattle.std.proofs.lemmas.List.{length-map}
 use Rattle.std.proofs.lemmas.Simd.{length-chunk, bitmask_splat, mask_l-mod, tops_compared, zip2_splat_left}
-use Rattle.mkt_io.specs.Words.{is_text_byte}
 use Rattle.mkt_io.proofs.MaskLemmas.{mask-and, mask-none, mask-or}
+use Rattle.mkt_io.proofs.TextLemmas.{text-byte}
 use Rattle.mkt_io.proofs.lanes.is_text_at.Goals as goal
-
--- a byte that is no text is low and no tab, or high
-text-byte : (b : ℕ) → not ((ltb b 32 && not (eqb b 9)) || ltb 126 b) ≡ is_text_byte b
-text-byte b = grind (arith, nat_tests)
 
 pub returns : goal.returns
 returns c =
