@@ -21,6 +21,7 @@ use node_rules::up;
 use turn_writer::{Lost, loss_entry, write_turn};
 
 // One node more may be up after a rejoin.
+#[inline(always)]
 fn asks(event: &Event) -> u64
     ensures { result ≡ asks event.now }
 {
@@ -31,6 +32,7 @@ fn asks(event: &Event) -> u64
 }
 
 // The three node numbers.
+#[inline(always)]
 pub(crate) fn numbers() -> [NodeNo; 3]
     ensures { result ≡ 0 ∷ 1 ∷ 2 ∷ [] }
 {
@@ -41,6 +43,7 @@ pub(crate) fn numbers() -> [NodeNo; 3]
 }
 
 // How many nodes are not lost.
+#[inline(always)]
 fn up_now<N: MemoryNode>(mirror: &Mirror<N>) -> u64
     ensures count { result ≡ up (states mirror.now) }
     ensures three { result ≤ 3 }

@@ -25,6 +25,7 @@ struct Calls {
 
 impl Calls {
     // Counts a call, which fails where its number is among those that do. The last number, 2^64 - 1, is that of no call.
+    #[inline(always)]
     fn next(&mut self) -> Result<(), Down>
         ensures passed { OnOk result (self.new.faults ≡ self.old.faults) }
         ensures failed { OnErr result (Rises self.old.faults self.new.faults) }
@@ -93,6 +94,7 @@ impl MemNode {
     }
 
     // Counts a put or a read. Where it is to fail the records are lost.
+    #[inline(always)]
     fn call(&mut self) -> Result<(), Down>
         ensures passed { OnOk result (self.new.records ≡ self.old.records) }
         ensures lost { OnErr result (self.new.records.items ≡ []) }
@@ -144,6 +146,7 @@ impl MemoryNode for MemNode {
 
     ghost reached = { λ n. n.reached };
 
+    #[inline(always)]
     fn put(&mut self, rec: &[u8; 48]) -> Result<(), Down> {
         self.call()?;
         if self.records.push(*rec).is_err() {
@@ -153,6 +156,7 @@ impl MemoryNode for MemNode {
         Ok(())
     }
 
+    #[inline(always)]
     fn read(&mut self, at: u64) -> Result<[u8; 48], Down> {
         self.call()?;
         Ok(self.records[at as usize])

@@ -10,6 +10,7 @@ use memory_node::MemoryNode;
 use mkt_base::NodeState;
 
 // The record at a place, from the first of two nodes that is synchronised and does not fail.
+#[inline(always)]
 fn read_any<N: MemoryNode>(a: &mut Member<N>, b: &mut Member<N>, at: u64) -> Option<[u8; 48]>
     requires a_within { a.old.state ≡ Synchronised → at < length a.old.contents }
     requires b_within { b.old.state ≡ Synchronised → at < length b.old.contents }

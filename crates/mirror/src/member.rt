@@ -33,6 +33,7 @@ impl<N: MemoryNode> Model for Member<N> {
 
 impl<N: MemoryNode> Member<N> {
     // Puts a record where the node is synchronised; a node that fails is lost. Whether this call lost it.
+    #[inline(always)]
     pub(crate) fn put(&mut self, rec: &[u8; 48]) -> bool
         requires room { self.old.state ≡ Synchronised → 1 ≤ self.old.spare }
         ensures { WasPut rec.now result self.old self.new }
@@ -48,6 +49,7 @@ impl<N: MemoryNode> Member<N> {
     }
 
     // How many records the node holds, where it is synchronised.
+    #[inline(always)]
     pub(crate) fn held(&self) -> Option<u64>
         ensures held { IfSome result (λ n. n ≡ length self.now.contents) }
         ensures synchronised { IfSome result (λ _. self.now.state ≡ Synchronised) }
@@ -61,6 +63,7 @@ impl<N: MemoryNode> Member<N> {
     }
 
     // The record at a place, where the node is synchronised; a node that fails is lost.
+    #[inline(always)]
     pub(crate) fn read(&mut self, at: u64) -> Option<[u8; 48]>
         requires within { self.old.state ≡ Synchronised → at < length self.old.contents }
         ensures read { IfSome result (λ rec. rec ≡ slice_index_or self.old.contents at rec) }
@@ -80,6 +83,7 @@ impl<N: MemoryNode> Member<N> {
 
     // Puts the record at a place to the node, which joins a journal of this length and has all records before; a node that
     // fails is lost. Whether it stayed.
+    #[inline(always)]
     pub(crate) fn copy(&mut self, rec: &[u8; 48], at: u64, entries: u64) -> bool
         requires joining { self.old.state ≡ Joining at }
         requires within { at < entries }

@@ -16,6 +16,7 @@ use record_codec::encode;
 use std::marker::Model;
 
 // Puts a record to each of three nodes that is synchronised. Which of them this lost.
+#[inline(always)]
 fn put_all<N: MemoryNode>(
     a: &mut Member<N>,
     b: &mut Member<N>,
@@ -36,6 +37,7 @@ fn put_all<N: MemoryNode>(
 }
 
 // How many records the first synchronised node of three holds.
+#[inline(always)]
 fn held<N: MemoryNode>(a: &Member<N>, b: &Member<N>, c: &Member<N>) -> Option<u64>
     ensures held { IfSome result (λ n. (journal : List (List ℕ)) → HoldsAs journal a.now.state a.now.contents →
         HoldsAs journal b.now.state b.now.contents → HoldsAs journal c.now.state c.now.contents → n ≡ length journal) }
@@ -135,6 +137,7 @@ impl<N: MemoryNode> Mirror<N> {
     }
 
     /// The state of a node.
+    #[inline(always)]
     pub fn state(&self, k: NodeNo) -> NodeState
         ensures value { result ≡ (node_at k self.now).state }
         ensures mirrored { MirrorsSome self.now }
@@ -147,6 +150,7 @@ impl<N: MemoryNode> Mirror<N> {
     }
 
     /// How many entries the journal has.
+    #[inline(always)]
     pub fn length(&self) -> u64
         ensures value { result ≡ self.now.length }
         ensures mirrored { MirrorsSome self.now }
@@ -156,6 +160,7 @@ impl<N: MemoryNode> Mirror<N> {
 
     /// Puts an entry to each synchronised node, 0 first, at the end of the journal. A node that fails is lost, and the answer
     /// names it. Where each synchronised node fails, or there is none, the journal stays as it was.
+    #[inline(always)]
     pub fn append(&mut self, entry: &Entry) -> Result<Kept, NoNode>
         requires place { entry.now.place ≡ self.old.length }
         requires room { HasRoom 1 self.old }
@@ -244,6 +249,7 @@ impl<N: MemoryNode> Mirror<N> {
     }
 
     /// The states of the nodes 0, 1 and 2.
+    #[inline(always)]
     pub fn states(&self) -> [NodeState; 3]
         ensures value { result ≡ states self.now }
         ensures mirrored { MirrorsSome self.now }

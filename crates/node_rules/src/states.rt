@@ -8,12 +8,14 @@ use mkt_base::{Caller, Event, NodeNo, NodeState};
 pub const PIECE: u64 = 64;
 
 /// Whether a node in this state is lost.
+#[inline(always)]
 pub fn is_lost(state: NodeState) -> bool
     ensures { result ≡ is_lost state }
 {
     state == NodeState::Lost
 }
 
+#[inline(always)]
 fn is_synchronised(state: NodeState) -> bool
     ensures { result ≡ is_synchronised state }
 {
@@ -21,12 +23,14 @@ fn is_synchronised(state: NodeState) -> bool
 }
 
 /// Whether some node is synchronised.
+#[inline(always)]
 pub fn has_synchronised(nodes: [NodeState; 3]) -> bool
     ensures { result ≡ has_synchronised nodes }
 {
     is_synchronised(nodes[0]) || is_synchronised(nodes[1]) || is_synchronised(nodes[2])
 }
 
+#[inline(always)]
 fn up_in(state: NodeState) -> u64
     ensures { result ≡ up_in state }
 {
@@ -34,6 +38,7 @@ fn up_in(state: NodeState) -> u64
 }
 
 /// How many nodes are not lost, 0 to 3.
+#[inline(always)]
 pub fn up(nodes: [NodeState; 3]) -> u64
     ensures count { result ≡ up nodes }
     ensures three { result ≤ 3 }
@@ -41,6 +46,7 @@ pub fn up(nodes: [NodeState; 3]) -> u64
     up_in(nodes[0]) + up_in(nodes[1]) + up_in(nodes[2])
 }
 
+#[inline(always)]
 fn is_joining(state: NodeState) -> bool
     ensures { result ≡ is_joining state }
 {
@@ -68,6 +74,7 @@ fn caught(entries: u64, state: NodeState) -> NodeState
 }
 
 /// Whether an event crashes the node of this number.
+#[inline(always)]
 pub fn crashes(event: &Event, k: u8) -> bool
     ensures { result ≡ crashes event.now k }
 {
@@ -78,6 +85,7 @@ pub fn crashes(event: &Event, k: u8) -> bool
 }
 
 // Whether an event is a crash or a rejoin.
+#[inline(always)]
 fn is_of_node(event: &Event) -> bool
     ensures { result ≡ is_of_node event.now }
 {
@@ -120,6 +128,7 @@ fn crashed(event: &Event, nodes: [NodeState; 3]) -> [NodeState; 3]
 }
 
 /// The node that joins by an event, in these states: that of a rejoin, where it is lost.
+#[inline(always)]
 pub fn joins(event: &Event, nodes: [NodeState; 3]) -> Option<NodeNo>
     ensures { result ≡ joins event.now nodes }
 {
@@ -153,6 +162,7 @@ fn after_event(event: &Event, entries: u64, nodes: [NodeState; 3]) -> [NodeState
 }
 
 // Whether an event is no crash and no rejoin, and no node copies records.
+#[inline(always)]
 fn moves_none(event: &Event, nodes: [NodeState; 3]) -> bool
     ensures { result ≡ moves_none event.now nodes }
 {
@@ -163,6 +173,7 @@ fn moves_none(event: &Event, nodes: [NodeState; 3]) -> bool
 /// piece of the journal so far, but for one that the entry's event crashes. A crash makes its node lost; a rejoin of a lost node
 /// lets it join with the first piece, its own entry included. A node that then has all records is synchronised.
 #[tactic(auto, unfolding(crate::specs::Nodes::node_step))]
+#[inline(always)]
 pub fn node_step(
     entries: u64,
     caller: Caller,

@@ -20,6 +20,7 @@ pub const FORM: u8 = 1;
 pub struct BadRecord(pub u8);
 
 /// The spelling of an entry, at its place.
+#[inline(always)]
 pub fn encode(entry: &Entry) -> [u8; 48]
     ensures bytes { result ≡ spelling entry.now }
     ensures numbers { IsEntry entry.now }

@@ -21,6 +21,7 @@ pub(crate) struct Row {
 }
 
 // The record of these fields.
+#[inline(always)]
 pub(crate) fn write_row(row: Row) -> [u8; 48]
     ensures { result ≡ bytes_of row }
 {

@@ -31,6 +31,7 @@ pub(crate) fn take_piece<N: MemoryNode>(mirror: &mut Mirror<N>, k: NodeNo, lost:
 }
 
 // The same for a node in any state; one that does not join, or that the event crashes, is left as it is.
+#[inline(always)]
 fn catch_one<N: MemoryNode>(
     mirror: &mut Mirror<N>,
     event: &Event,
@@ -53,6 +54,7 @@ fn catch_one<N: MemoryNode>(
 }
 
 // The same for each node. The nodes that were lost; none where a source was missing.
+#[inline(always)]
 pub(crate) fn catch_all<N: MemoryNode>(mirror: &mut Mirror<N>, event: &Event) -> Option<Lost>
     requires place { HasPlace 0 mirror.old }
     ensures caught { IfSome result (λ lost. CaughtAll event.now lost mirror.old mirror.new) }

@@ -23,6 +23,7 @@ impl Model for Lost {
 }
 
 // The node of a number.
+#[inline(always)]
 pub(crate) fn node_no(n: u8) -> NodeNo
     requires { n < 3 }
     ensures { result ≡ n }
@@ -35,6 +36,7 @@ pub(crate) fn node_no(n: u8) -> NodeNo
 
 impl Lost {
     /// No node.
+    #[inline(always)]
     pub fn none() -> Lost
         ensures { result ≡ [] }
     {
@@ -54,6 +56,7 @@ impl Lost {
     }
 
     /// How many there are.
+    #[inline(always)]
     pub fn len(&self) -> usize
         ensures value { result ≡ length self.now }
         ensures three { result ≤ 3 }
@@ -62,6 +65,7 @@ impl Lost {
     }
 
     /// The node at a place, from 0 on.
+    #[inline(always)]
     pub fn node(&self, i: usize) -> NodeNo
         requires { i < length self.now }
         ensures { slice_get self.now i ≡ Some result }

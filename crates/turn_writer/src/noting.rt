@@ -8,6 +8,7 @@ use mirror::Kept;
 use mkt_base::NodeNo;
 
 // Adds a node where it was lost.
+#[inline(always)]
 fn note(lost: &mut Lost, k: NodeNo, fell: bool)
     requires { length lost.old + length (named k fell) ≤ 3 }
     ensures { lost.new ≡ lost.old ++ named k fell }
@@ -18,6 +19,7 @@ fn note(lost: &mut Lost, k: NodeNo, fell: bool)
 }
 
 // Adds those of three nodes that a call lost, in this order.
+#[inline(always)]
 pub(crate) fn note_lost(lost: &mut Lost, kept: &Kept, i: u8, j: u8, k: u8)
     requires nodes { (i < 3) × (j < 3) × (k < 3) }
     requires three { length lost.old + length (in_order i j k kept.now.lost) ≤ 3 }

@@ -16,6 +16,7 @@ use mirror::Mirror;
 use mkt_base::{Entry, Event, NodeNo};
 
 // Puts an entry to each synchronised node, and notes those that failed. Whether one was left.
+#[inline(always)]
 pub(crate) fn put_entry<N: MemoryNode>(
     mirror: &mut Mirror<N>,
     entry: &Entry,
@@ -37,6 +38,7 @@ pub(crate) fn put_entry<N: MemoryNode>(
 }
 
 // Wipes the node that the event crashes. If the catch-up had lost it, that is no loss of the turn any more.
+#[inline(always)]
 pub(crate) fn crash<N: MemoryNode>(mirror: &mut Mirror<N>, event: &Event, lost: &mut Lost)
     ensures { WasCrashed event.now lost.old lost.new mirror.old mirror.new }
 {
@@ -49,6 +51,7 @@ pub(crate) fn crash<N: MemoryNode>(mirror: &mut Mirror<N>, event: &Event, lost: 
 
 // Lets a lost node join, if there is one that does, and copies the first piece of the journal to it. Whether there was a source
 // for each record.
+#[inline(always)]
 pub(crate) fn rejoin<N: MemoryNode>(
     mirror: &mut Mirror<N>,
     node: Option<NodeNo>,

@@ -16,6 +16,7 @@ use node_rules::joins;
 
 // Writes an entry to the nodes, with what its event does to them. The nodes that were lost; none where no synchronised node is
 // left to read from or to write to.
+#[inline(always)]
 fn write_event<N: MemoryNode>(mirror: &mut Mirror<N>, entry: &Entry) -> Option<Lost>
     requires place { entry.now.place ≡ mirror.old.length }
     requires caller { 0 < entry.now.caller.0 }
@@ -45,6 +46,7 @@ fn write_event<N: MemoryNode>(mirror: &mut Mirror<N>, entry: &Entry) -> Option<L
 ///
 /// The nodes that were lost, in the order of their entries; a node that the event itself crashes is none of them. None where no
 /// synchronised node is left; the nodes then hold nothing of use.
+#[inline(always)]
 pub fn write_turn<N: MemoryNode>(mirror: &mut Mirror<N>, entry: &Entry, own: u32) -> Option<Lost>
     requires place { entry.now.place ≡ mirror.old.length }
     requires caller { 0 < entry.now.caller.0 }
