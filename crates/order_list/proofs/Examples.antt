@@ -1,10 +1,12 @@
 -- Worked examples: the definitions compute to what a reader of the rules would say.
-use Rattle.std.specs.Prelude.{◌≡◌, ℕ, List, [], ◌∷◌, Some, None, refl}
+use Rattle.std.specs.Prelude.{◌≡◌, ℕ, zero, suc, List, [], ◌∷◌, Option, Some, None, refl}
 use Rattle.std.proofs.Common.{lit<}
 use Rattle.std.specs.List.{after_first}
 use Rattle.order_list.specs.Key.{beside_of, bits_of}
 use Rattle.order_list.specs.declared.link.Beside.TheVariants.{Neighbour, End}
 use Rattle.order_list.specs.Lists.{IsIn, Linked, first_link, is_at, list_at, with_before, with_item, with_last, without}
+use Rattle.order_list.specs.Pool.{by_place, put_by_place}
+use Rattle.order_list.specs.declared.kept.Kept.{Kept}
 
 abbrev node : ℕ → ℕ → Linked ℕ
 node link item = record { link = link; item = item }
@@ -51,3 +53,16 @@ the_first_list = refl
 
 a_list_and_back : beside_of (bits_of (End 3)) ≡ End 3
 a_list_and_back = refl
+
+-- under the keys 0 and 2 numbers are kept that are their own places, and nothing under any other
+abbrev cells : ℕ → Option (Kept ℕ)
+cells zero = Some (record { item = 8 })
+cells (suc zero) = None
+cells (suc (suc zero)) = Some (record { item = 5 })
+cells (suc (suc (suc key))) = None
+
+by_place_and_not_by_key : by_place (λ item. item) cells 9 ≡ node 2 5 ∷ node 0 8 ∷ []
+by_place_and_not_by_key = refl
+
+between_two_places : put_by_place (λ item. item) (node 1 6) (node 2 5 ∷ node 0 8 ∷ []) ≡ node 2 5 ∷ node 1 6 ∷ node 0 8 ∷ []
+between_two_places = refl

@@ -5,3 +5,6 @@ pub mod ListLemmas
 pub mod SoundLemmas
 pub mod CallLemmas
 pub mod StayLemmas
+pub mod PlaceLemmas
+pub mod PoolLemmas
+pub mod PoolCallLemmas

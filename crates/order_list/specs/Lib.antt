@@ -2,3 +2,4 @@ pub mod Key
 pub mod Lending
 pub mod Links
 pub mod Lists
+pub mod Pool

@@ -19,6 +19,12 @@ pub record AreEmpty (lists : ℕ) (ends : List Ends) : Type 0 where
   pub count : length ends ≡ lists
   pub each : (list : ℕ) → list < lists → end_at ends list ≡ no_ends list
 
+-- the same entries, with room for so many more and for no more than keys can name
+pub record IsGrown {C : Type 0} (old : Slab C) (more : ℕ) (new : Slab C) : Type 0 where
+  pub kept : new.slots ≡ old.slots
+  pub room : HasRoomFor new more
+  pub small : new.capacity ≤ 2147483648
+
 module _ {T : Type 0} where
   -- a walk from `at`, before which `before` stands, over the nodes of a list gives these items; it ends with `last`, which
   -- `after` follows
@@ -70,12 +76,6 @@ module _ {T : Type 0} where
     pub room : slab_len nodes ≤ nodes.capacity
     pub small : nodes.capacity ≤ 2147483648
     pub few : length lists ≤ 2147483648
-
-  -- the same nodes, with room for so many more and for no more than keys can name
-  pub record IsGrown (old : Slab (Node T)) (more : ℕ) (new : Slab (Node T)) : Type 0 where
-    pub kept : new.slots ≡ old.slots
-    pub room : HasRoomFor new more
-    pub small : new.capacity ≤ 2147483648
 
   -- a node more, under a key that had none
   pub record AddsNode (node : Node T) (key : ℕ) (old new : Slab (Node T)) : Type 0 where

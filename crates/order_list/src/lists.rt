@@ -206,12 +206,13 @@ impl<T: Copy> OrderList<T> {
     }
 }
 
-// The same nodes with room for so many more. They are copied, so that those that there are keep their room where the copy
+// The same entries with room for so many more. They are copied, so that those that there are keep their room where the copy
 // has more than a key can name: how much a slab makes room for is its own affair.
-fn with_room<T: Copy>(nodes: &Slab<Node<T>>, more: usize) -> Result<Slab<Node<T>>, ListFault>
-    ensures { IfOk result (IsGrown nodes.now more) }
+pub(crate) fn with_room<C: Clone + Drop>(cells: &Slab<C>, more: usize) -> Result<Slab<C>, ListFault>
+    requires { (cell copy : C) → C.is_clone cell copy → copy ≡ cell }
+    ensures { IfOk result (IsGrown cells.now more) }
 {
-    let mut grown = nodes.clone().map_err(|_| ListFault::Memory)?;
+    let mut grown = cells.clone().map_err(|_| ListFault::Memory)?;
     grown.reserve(more).map_err(|_| ListFault::Memory)?;
     if grown.capacity() > MOST as usize {
         return Err(ListFault::Memory);
