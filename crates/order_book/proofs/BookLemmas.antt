@@ -21,7 +21,7 @@ use Rattle.order_book.specs.declared.held.Filed.{Filed}
 use Rattle.order_book.specs.declared.held.Held.{Held}
 use Rattle.order_book.proofs.FiledLemmas.{apart-filter, apart-map, apart-push, filed-changed, filed-in, filed-inserted, filed-removed, filter-map, filter-same, find-cases, find-holds, find-passes, only-one}
 use Rattle.order_book.proofs.DepthLemmas.{depth-is, depths-fewer, depths-more, is_limit_upto, none-found, others, sum-is, total-less, total-most, total-push, total-without}
-use Rattle.order_book.proofs.PlainLemmas.{find-map}
+use Rattle.order_book.proofs.PlainLemmas.{All-unmap, find-map}
 use Rattle.order_book.proofs.ViewLemmas.{inserted-stands, reduced-stands, without-stands}
 
 -- a number is that one, or that one is the number
@@ -95,6 +95,16 @@ last-changed h x y [] fresh = ap (λ b. record { link = h; item = cond b x y } �
 last-changed h x y (n ∷ ns) fresh =
     ap (λ b. record n { item = cond b x n.item } ∷ map (item_at h x) (ns ++ record { link = h; item = y } ∷ [])) (ne_eqb n.link h fresh.0)
     ∙ ap (λ ms. n ∷ ms) (last-changed h x y ns fresh.1)
+
+-- where there is one list a link names one order
+pub same-held : (lists : List (List (Linked Held))) (link list : ℕ) (x y : Held) → length lists ≡ 1 → IsIn lists link 0 x → IsIn lists link list y → x ≡ y
+same-held lists link list x y one first second =
+    let here : list ≡ 0 = omega (arith, one, second.within) in
+    let found = subst (λ k. find (is_link_at link) (list_at lists k) ≡ Some (record { link = link; item = y })) here second.found in
+    same (record { link = link; item = x }) (record { link = link; item = y }) (sym first.found ∙ found)
+  where
+    same : (m n : Linked Held) → Path (Option (Linked Held)) (Some m) (Some n) → m.item ≡ n.item
+    same m n e = let is : m ≡ n = cc in ap (λ (k : Linked Held). k.item) is
 
 -- without one order there is one less
 length-without : (h : ℕ) (t : Linked Held) (ns : List (Linked Held)) → AreApart (λ n. n.link) ns → find (is_link_at h) ns ≡ Some t → length (filter (λ n. not (is_link_at h n)) ns) + 1 ≡ length ns
@@ -367,6 +377,11 @@ module _ (n c b : ℕ) (held : Lists Held) (levels owners : Lists ℕ) (d : Dept
 
     pub number-fits : level_no o.side o.spot < 4294967296
     number-fits = omega (arith, level-within n o.side o.spot spot-of, is.holds.book.few_prices)
+
+    -- its place is behind those of all others
+    pub behind-all : All (λ m. m.item.order.place < o.place) nodes
+    behind-all =
+        All-unmap (λ s. s.order.place < o.place) slot_at nodes (subst (λ v. All (λ s. s.order.place < o.place) v.slots) (sym view) fresh.last)
 
     pub level-there : level_no o.side o.spot < length levels.lists
     level-there = omega (arith, level-within n o.side o.spot spot-of, is.holds.level_count)

@@ -39,8 +39,11 @@ the_market_has_the_first_lists = refl
 two_lists_a_position : level_no Sell (At 3) ≡ 9
 two_lists_a_position = refl
 
-a_bucket : bucket_of 10 (record { 0 = 1 }) 2 ≡ 9
+a_bucket : bucket_of 10 (record { 0 = 1 }) 2 ≡ 1
 a_bucket = refl
+
+the_next_number_is_beside_it : bucket_of 10 (record { 0 = 1 }) 3 ≡ 2
+the_next_number_is_beside_it = refl
 
 lower_buys_are_behind : is_behind 8 Buy (At 5) (order 1 Buy (At 3) 10) ≡ true
 lower_buys_are_behind = refl

@@ -160,7 +160,7 @@ bucket-has buckets own caller o e = by_tests (eqb caller.0 o.caller.0) (eqb own 
     by_tests true true f g so =
         let same : caller.0 ≡ o.caller.0 = eqb-true caller.0 o.caller.0 f in
         let same_too : own ≡ o.own = eqb-true own o.own g in
-        ap (λ k. (o.own * 64 + k) % buckets) (sym same) ∙ ap (λ k. (k * 64 + caller.0) % buckets) (sym same_too)
+        ap (λ k. (o.own + k * 2654435769) % buckets) (sym same) ∙ ap (λ k. (k + caller.0 * 2654435769) % buckets) (sym same_too)
     by_tests true false f g so = absurd (cc)
     by_tests false b f g so = absurd (cc)
 

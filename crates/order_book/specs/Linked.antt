@@ -23,9 +23,9 @@ level_no Sell (At i) = 2 * i + 3
 abbrev pub level_key : Order → ℕ
 level_key o = level_no o.side o.spot
 
--- the number of the list of a caller's own number
+-- the number of the list of a caller's own number: a caller's numbers have their lists side by side, and those of the callers begin far apart
 abbrev pub bucket_of : ℕ → Caller → ℕ → ℕ
-bucket_of buckets caller own = (own * 64 + caller.0) % buckets
+bucket_of buckets caller own = (own + caller.0 * 2654435769) % buckets
 
 abbrev pub owner_key : ℕ → Order → ℕ
 owner_key buckets o = bucket_of buckets o.caller o.own

@@ -20,7 +20,7 @@ use crate::held::{Filed, Held, bucket, level_of};
 use crate::{Handle, Levels};
 use depth_index::Steps;
 use mkt_base::{Caller, Order, Side, Spot};
-use order_list::OrderList;
+use order_list::{OrderList, Pool};
 use std::alloc::Global;
 use std::marker::{Brand, Model};
 use std::sync::ledger::{Blank, Ledger};
@@ -39,8 +39,8 @@ pub struct Book {
     prices: u32,
     capacity: u32,
     buckets: u32,
-    // One list, by place; the others have the handles of its orders.
-    held: OrderList<Held>,
+    // One list, by place, which nobody walks; the others have the handles of its orders.
+    held: Pool<Held>,
     levels: OrderList<Handle>,
     owners: OrderList<Handle>,
     depths: Depths,
@@ -66,14 +66,13 @@ impl Book {
         requires few { prices ≤ 20000 }
         ensures { IfOk result (λ book. book ≡ record { prices = prices; capacity = capacity; slots = [] }) }
     {
-        // A fourth of the room: where all of it is taken a bucket has four orders, and most days leave most of it. Odd, so that the
-        // numbers of one caller, 64 apart, take all buckets in turn.
-        let buckets = capacity / 8 * 2 + 1;
+        // A fourth of the room: where all of it is taken a bucket has four orders, and most days leave most of it.
+        let buckets = capacity / 4 + 1;
         Ok(Book {
             prices,
             capacity,
             buckets,
-            held: lists_with_room(alloc, 1, capacity)?,
+            held: held_with_room(alloc, capacity)?,
             levels: lists_with_room(alloc, 2 * prices + 2, capacity)?,
             owners: lists_with_room(alloc, buckets, capacity)?,
             depths: Depths::make(alloc, prices).map_err(|_| BookFault::Memory)?,
@@ -104,17 +103,16 @@ impl Book {
         let owner = bucket(self.buckets, order.caller, order.own);
         let level = level_of(order.side, order.spot);
         // The other lists hold the handle, so that their links are written last.
-        let held = Held {
+        let link = self.held.push_back(Held {
             order,
             filed: Filed::default(),
-        };
-        let link = self.held.push_back(0, held);
+        });
         let handle = Handle::new(link);
         let filed = Filed {
             level: self.levels.push_back(level, handle),
             owner: self.owners.push_back(owner, handle),
         };
-        self.held.item_mut(link).filed = filed;
+        self.held.set(link, Held { order, filed });
         self.depths.add(order.side, order.spot, order.left);
         handle
     }
@@ -133,9 +131,10 @@ impl Book {
         requires less { (o : Order) → Names self.old handle o → by < o.left }
         ensures { self.new ≡ reduced handle by self.old }
     {
-        let held = self.held.item_mut(handle.link());
+        let mut held = self.held.item(handle.link());
         held.order.left -= by;
         let (side, spot) = (held.order.side, held.order.spot);
+        self.held.set(handle.link(), held);
         self.depths.sub(side, spot, by);
     }
 
@@ -286,7 +285,7 @@ fn is_own(order: &Order, caller: Caller, own: u32) -> bool
 
 // The handle of a caller's order, by a walk over the list of its bucket.
 fn own_in(
-    held: &OrderList<Held>,
+    held: &Pool<Held>,
     owners: &OrderList<Handle>,
     most: u32,
     list: u32,
@@ -314,6 +313,16 @@ fn own_in(
         place = owners.next(link);
     }
     None
+}
+
+// No orders, with room for so many.
+fn held_with_room(alloc: Global, room: u32) -> Result<Pool<Held>, BookFault>
+    ensures empty { IfOk result (λ made. made.lists ≡ [] ∷ []) }
+    ensures room { IfOk result (λ made. room ≤ made.spare) }
+{
+    let mut made = Pool::make(alloc);
+    made.reserve(alloc, room).map_err(|_| BookFault::Memory)?;
+    Ok(made)
 }
 
 // So many empty lists with room for so many items.

@@ -1,11 +1,10 @@
 use Rattle.std.proofs.Common.{refl, sym, ◌∙◌, ap, subst}
-use Rattle.order_list.specs.Lists.{Lists, with_item, with_last}
+use Rattle.order_list.specs.Lists.{with_last}
 use Rattle.order_book.specs.Fields.{AreFields, book_of}
 use Rattle.order_book.specs.Linked.{linked}
 use Rattle.book_law.specs.BookView.{IsInserted}
-use Rattle.order_book.specs.declared.held.Filed.{Filed}
 use Rattle.order_book.specs.declared.held.Held.{Held}
-use Rattle.order_book.proofs.BookLemmas.{bought, inserted-linked, inserted-view, limit-bought, market-bought, market-sold, number-fits, sold}
+use Rattle.order_book.proofs.BookLemmas.{behind-all, bought, inserted-linked, inserted-view, limit-bought, market-bought, market-sold, number-fits, same-held, sold}
 use Rattle.order_book.proofs.book.Book.insert.Goals as goal
 
 pub level_of-level-requires : goal.level_of-level-requires
@@ -44,17 +43,29 @@ add-requires-clause-limit_bought c =
     let f = c.self.inside in
     limit-bought f.prices f.capacity f.buckets f.held f.levels f.owners f.depths c.self.invariant c.args.self.now c.self.view_is c.args.order c.requires
 
+pub push_back-link-requires-clause-last : goal.push_back-link-requires-clause-last
+unfolding AreFields book_of
+push_back-link-requires-clause-last c =
+    let f = c.self.inside in
+    behind-all f.prices f.capacity f.buckets f.held f.levels f.owners f.depths c.self.invariant c.args.self.now c.self.view_is c.args.order c.requires
+
+-- the order that the link names is the one that was put in
+pub set-requires-clause-place : goal.set-requires-clause-place
+unfolding AreFields book_of
+set-requires-clause-place c list old live =
+    let f = c.self.inside in
+    ap (λ (y : Held). y.order.place)
+    (same-held c.push_back-link.new.self.lists c.push_back-link.result list _ old (c.push_back-link.ensures.count ∙ c.self.invariant.one) c.push_back-link.ensures.names live)
+
 pub invariant_of-self : goal.invariant_of-self
 unfolding AreFields book_of
 invariant_of-self c =
     let f = c.self.inside in
-    let filed : Filed = record { level = c.push_back.result; owner = c.push_back-2.result } in
-    let x : Held = record { order = c.item_mut.result.now.order; filed = filed } in
-    let held : Lists Held = record c.push_back-link.new.self { lists = with_item c.push_back-link.result x c.push_back-link.new.self.lists } in
+    let x : Held = record { order = c.args.order; filed = record { level = c.push_back.result; owner = c.push_back-2.result } } in
     inserted-linked f.prices f.capacity f.buckets f.held f.levels f.owners f.depths c.self.invariant c.args.self.now c.self.view_is c.args.order c.requires
-    c.push_back-link.new.self held c.push_back.new.self c.push_back-2.new.self c.add.new.self c.push_back-link.result c.push_back.result c.push_back-2.result c.level_of-level.result c.bucket-owner.result
-    x _ (ap (λ (z : Held). record { order = z.order; filed = filed }) (c.item_mut.ensures.item 0 _ c.push_back-link.ensures.names))
-    c.push_back-link.ensures.lists c.push_back-link.ensures.fresh c.push_back-link.ensures.spare refl refl
+    c.push_back-link.new.self c.set.new.self c.push_back.new.self c.push_back-2.new.self c.add.new.self c.push_back-link.result c.push_back.result c.push_back-2.result c.level_of-level.result c.bucket-owner.result
+    x _ refl
+    c.push_back-link.ensures.lists c.push_back-link.ensures.fresh c.push_back-link.ensures.spare c.set.ensures.lists c.set.ensures.spare
     c.level_of-level.ensures
     (c.push_back.ensures.lists ∙ ap (λ h. with_last c.level_of-level.result (record { link = c.push_back.result; item = h }) f.levels.lists) c.new-handle.ensures) c.push_back.ensures.unused c.push_back.ensures.spare
     c.bucket-owner.ensures.exact c.bucket-owner.ensures.within
@@ -65,14 +76,12 @@ pub returns : goal.returns
 unfolding AreFields book_of
 returns c =
     let f = c.self.inside in
-    let filed : Filed = record { level = c.push_back.result; owner = c.push_back-2.result } in
-    let x : Held = record { order = c.item_mut.result.now.order; filed = filed } in
-    let held : Lists Held = record c.push_back-link.new.self { lists = with_item c.push_back-link.result x c.push_back-link.new.self.lists } in
-    subst (λ h. IsInserted c.args.self.now c.args.order h (linked f.prices f.capacity held.lists)) (sym c.new-handle.ensures)
+    let x : Held = record { order = c.args.order; filed = record { level = c.push_back.result; owner = c.push_back-2.result } } in
+    subst (λ h. IsInserted c.args.self.now c.args.order h (linked f.prices f.capacity c.set.new.self.lists)) (sym c.new-handle.ensures)
     (inserted-view f.prices f.capacity f.buckets f.held f.levels f.owners f.depths c.self.invariant c.args.self.now c.self.view_is c.args.order c.requires
-    c.push_back-link.new.self held c.push_back.new.self c.push_back-2.new.self c.add.new.self c.push_back-link.result c.push_back.result c.push_back-2.result c.level_of-level.result c.bucket-owner.result
-    x _ (ap (λ (z : Held). record { order = z.order; filed = filed }) (c.item_mut.ensures.item 0 _ c.push_back-link.ensures.names))
-    c.push_back-link.ensures.lists c.push_back-link.ensures.fresh c.push_back-link.ensures.spare refl refl
+    c.push_back-link.new.self c.set.new.self c.push_back.new.self c.push_back-2.new.self c.add.new.self c.push_back-link.result c.push_back.result c.push_back-2.result c.level_of-level.result c.bucket-owner.result
+    x _ refl
+    c.push_back-link.ensures.lists c.push_back-link.ensures.fresh c.push_back-link.ensures.spare c.set.ensures.lists c.set.ensures.spare
     c.level_of-level.ensures
     (c.push_back.ensures.lists ∙ ap (λ h. with_last c.level_of-level.result (record { link = c.push_back.result; item = h }) f.levels.lists) c.new-handle.ensures) c.push_back.ensures.unused c.push_back.ensures.spare
     c.bucket-owner.ensures.exact c.bucket-owner.ensures.within
