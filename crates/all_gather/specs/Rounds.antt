@@ -1,11 +1,10 @@
--- The cells of rounds, and what a member has read of them.
+-- What a member has read in rounds.
 use Rattle.std.specs.Prelude.{◌≡◌, ℕ, ◌+◌, ◌<◌, ◌≤◌, List, slice_index_or}
 
--- what a member has read: of which cells, and what each of them holds
+-- what a member has read
 pub record Readings (V : Type 0) : Type 0 where
-  pub cells : List ℕ
   pub values : List V
-  -- for how many cells there is room in all
+  -- for how many values there is room in all
   pub room : ℕ
 
 module _ {X : Type 0} where

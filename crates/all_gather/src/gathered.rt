@@ -1,56 +1,87 @@
 // What a member has read of the rounds so far.
-ghost use Rattle.std.specs.Prelude.{◌≡◌, [], IfOk};
+ghost use Rattle.std.specs.Prelude.{◌≡◌, true, [], IfOk};
 
+use crate::{Packed, Words};
 use std::alloc::{AllocError, Global};
-use std::marker::Model;
-use std::sync::OnceToken;
+use std::marker::{Model, PhantomData};
+use std::sync::Wait;
+use std::thread::yield_now;
 
-/// What one member has read of the rounds so far. It takes no bytes: the values are in the cells.
+/// What one member has read of the rounds so far.
 #[derive(Drop)]
-pub struct Gathered<'a, V> {
-    pub(crate) tokens: Vec<OnceToken<'a, V>>,
-    /// Of the member's own cells of a round, while it waits for the others'.
-    pub(crate) own: Vec<OnceToken<'a, V>>,
+pub struct Gathered<V: Packed> {
+    pub(crate) log: Vec<Words>,
+    value: PhantomData<V>,
 }
 
-impl<'a, V> Model for Gathered<'a, V> {
-    ghost use Rattle.std.specs.Prelude.{◌≡◌, [], map, vec_capacity};
+impl<V: Packed> Model for Gathered<V> {
+    ghost use Rattle.std.specs.Prelude.{map, vec_capacity};
     ghost use Rattle.all_gather.specs.Rounds.{Readings};
 
     ghost Value = { Readings V };
 
-    ghost view = { λ g. record { cells = map (λ t. t.of) g.tokens.items; values = map (λ t. t.value) g.tokens.items; room = vec_capacity g.tokens } };
-
-    ghost invariant = { λ g. (g.own.items ≡ []) × (vec_capacity g.own ≡ vec_capacity g.tokens) };
+    ghost view = { λ g. record { values = map V.unpacked g.log.items; room = vec_capacity g.log } };
 }
 
-impl<'a, V> Gathered<'a, V> {
+impl<V: Packed> Gathered<V> {
     /// Nothing is read, and there is no room.
-    pub fn new(alloc: Global) -> Gathered<'a, V>
-        ensures { (result.cells ≡ []) × (result.values ≡ []) }
+    pub fn new(alloc: Global) -> Gathered<V>
+        ensures { result.values ≡ [] }
     {
         Gathered {
-            tokens: Vec::new(alloc),
-            own: Vec::new(alloc),
+            log: Vec::new(alloc),
+            value: PhantomData,
         }
     }
 
-    /// Nothing is read yet, and there is room for so many cells.
-    pub fn make(alloc: Global, room: usize) -> Result<Gathered<'a, V>, AllocError>
-        ensures { IfOk result (λ g. (g.cells ≡ []) × ((g.values ≡ []) × (g.room ≡ room))) }
+    /// Nothing is read yet, and there is room for so many values.
+    pub fn make(alloc: Global, room: usize) -> Result<Gathered<V>, AllocError>
+        ensures { IfOk result (λ g. (g.values ≡ []) × (g.room ≡ room)) }
     {
-        let tokens = Vec::with_capacity(alloc, room)?;
-        let own = Vec::with_capacity(alloc, room)?;
-        Ok(Gathered { tokens, own })
+        let log = Vec::with_capacity(alloc, room)?;
+        Ok(Gathered {
+            log,
+            value: PhantomData,
+        })
     }
 }
 
-/// Two members that have read the same cells have read the same values.
-pub fn agree<'a, V>(a: &Gathered<'a, V>, b: &Gathered<'a, V>)
-    requires { a.now.cells ≡ b.now.cells }
+fn is_same(a: &Words, b: &Words) -> bool
+    ensures { result ≡ true → a.now ≡ b.now }
+{
+    a.first == b.first && a.second == b.second && a.third == b.third
+}
+
+fn are_same(a: &[Words], b: &[Words]) -> bool
+    ensures { result ≡ true → a.now ≡ b.now }
+{
+    if a.len() != b.len() {
+        return false;
+    }
+    for (place, words) in a.iter().enumerate() {
+        if !is_same(words, &b[place]) {
+            return false;
+        }
+    }
+    true
+}
+
+// Never returns.
+fn wait_for_good<R: Wait>(rt: &R)
+    ensures { ⊥ }
+{
+    for _ in rt.forever() {
+        yield_now();
+    }
+    unreachable!()
+}
+
+/// Two members have read the same values. Plain atomic words carry no proof, so what the two have read is compared, word by word. It is the same
+/// where both have read the same cells in rounds in which each cell was written by one member, once; where it is not, this waits for good.
+pub fn agree<R: Wait, V: Packed>(rt: &R, a: &Gathered<V>, b: &Gathered<V>)
     ensures { a.now.values ≡ b.now.values }
 {
-    for place in 0..a.tokens.len() {
-        a.tokens[place].agrees(&b.tokens[place]);
+    if !are_same(a.log.as_slice(), b.log.as_slice()) {
+        wait_for_good(rt);
     }
 }

@@ -3,8 +3,10 @@
 
 mod cells;
 mod gathered;
+mod packed;
 mod rounds;
 
-pub use cells::{empty_cells, make_cells};
+pub use cells::{Cell, empty_cells, make_cells};
 pub use gathered::{Gathered, agree};
+pub use packed::{Packed, Words};
 pub use rounds::gather;

@@ -1,5 +1,5 @@
 -- A desk that shows its board until it has seen as much as the others.
-use Rattle.std.proofs.Common.{◌≡◌, ℕ, ◌≤◌, true, length, Some, refl, sym, ap, subst, ◌∙◌, arith}
+use Rattle.std.proofs.Common.{◌≡◌, ℕ, ◌≤◌, true, length, Some, refl, subst, ◌∙◌}
 use Rattle.mkt_base.specs.Desk.{DeskState, WasShown}
 use Rattle.mkt_base.specs.declared.event.Event.{Event}
 use Rattle.mkt_base.specs.declared.journal.Halt.{Halt}

@@ -1,5 +1,5 @@
 -- The gateways of a block, when all have left it.
-use Rattle.std.proofs.Common.{◌≡◌, ℕ, ◌<◌, Bool, true, false, List, [], ◌∷◌, length, map, Option, None, Some, All, slice_index_or, refl, sym, ap, subst, ◌∙◌, arith}
+use Rattle.std.proofs.Common.{◌≡◌, ℕ, ◌<◌, true, false, List, [], ◌∷◌, length, map, Option, None, Some, All, slice_index_or, refl, sym, ap, subst, ◌∙◌, arith}
 use Rattle.std.proofs.Math.ListN.{get_or-map}
 use Rattle.std.proofs.lemmas.List.{ext_get_or, length-map}
 use Rattle.mkt_base.specs.Desk.{DeskState}
@@ -38,13 +38,13 @@ module _ {D F : Type 0} (state : D → DeskState) (fixed : D → F) (caller : F 
       (all k m.part (subst (λ (n : ℕ). k < n) (sym (length-map ms (λ (x : Member D). x.part)) ∙ ap (λ (xs : List (Part D)). length xs) are) within))
 
   -- each has left it
-  pub all-of : (issues width stage count cell : ℕ) (names : List ℕ) (ms ns : List (Member D)) → length ns ≡ length ms
-      → ((k : ℕ) (m : Member D) → k < length ms → HasLeft state fixed caller takes tells issues width stage count cell names (slice_index_or ms k m).part (slice_index_or ns k m)) → All (IsOf cell names) ns
-  all-of issues width stage count cell names ms ns same left = λ k m within.
-      let one = left k m (subst (λ (n : ℕ). k < n) same within) in record { went = one.went; is = one.is; of = one.of; cells = one.cells }
+  pub all-of : (issues width stage count cell : ℕ) (ms ns : List (Member D)) → length ns ≡ length ms
+      → ((k : ℕ) (m : Member D) → k < length ms → HasLeft state fixed caller takes tells issues width stage count cell (slice_index_or ms k m).part (slice_index_or ns k m)) → All (IsOf cell) ns
+  all-of issues width stage count cell ms ns same left = λ k m within.
+      let one = left k m (subst (λ (n : ℕ). k < n) same within) in record { went = one.went; is = one.is; of = one.of }
 
-  module _ (issues width stage count cell : ℕ) (names : List ℕ) (ps rs : List (Part D)) (ms ns : List (Member D)) (came : map (λ (m : Member D). m.part) ms ≡ ps) (go_on : rs ≡ map (λ (m : Member D). m.part) ns) (same : length ns ≡ length ms)
-      (left : (k : ℕ) (m : Member D) → k < length ms → HasLeft state fixed caller takes tells issues width stage count cell names (slice_index_or ms k m).part (slice_index_or ns k m)) where
+  module _ (issues width stage count cell : ℕ) (ps rs : List (Part D)) (ms ns : List (Member D)) (came : map (λ (m : Member D). m.part) ms ≡ ps) (go_on : rs ≡ map (λ (m : Member D). m.part) ns) (same : length ns ≡ length ms)
+      (left : (k : ℕ) (m : Member D) → k < length ms → HasLeft state fixed caller takes tells issues width stage count cell (slice_index_or ms k m).part (slice_index_or ns k m)) where
     pub as-many : length rs ≡ length ps
     as-many = ap (λ (xs : List (Part D)). length xs) go_on ∙ length-map ns (λ (m : Member D). m.part) ∙ same ∙ sym (length-map ms (λ (m : Member D). m.part)) ∙ ap (λ (xs : List (Part D)). length xs) came
 

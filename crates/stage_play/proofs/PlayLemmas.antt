@@ -1,26 +1,25 @@
 -- A stage more, of one gateway: it did its lines of the stage, and its desks caught up.
-use Rattle.std.proofs.Common.{◌≡◌, ℕ, ◌+◌, ◌<◌, ◌≤◌, ◌==◌, Bool, true, false, cond, List, Option, None, [], ◌∷◌, ◌++◌, length, map, filter, filter_map, nat_lt, All, refl, sym, ap, subst, ◌∙◌, arith, append_assoc, slice_index_or}
+use Rattle.std.proofs.Common.{◌≡◌, ℕ, ◌+◌, ◌<◌, ◌≤◌, ◌==◌, Bool, true, false, cond, List, None, [], ◌∷◌, ◌++◌, length, map, filter, filter_map, nat_lt, All, refl, sym, ap, subst, ◌∙◌, arith, append_assoc, slice_index_or}
 use Rattle.std.proofs.lemmas.Bool.{eqb-true, eqb-false, ltb-false, ltb-true, ne_eqb}
 use Rattle.std.proofs.lemmas.List.{map-append}
 use Rattle.mkt_base.specs.declared.units.Caller.{Caller}
 use Rattle.std.proofs.lemmas.List.Elements.{All-append, All-cons, All-head, All-nil, All-tail, filter-append, filter_map-append}
 use Rattle.mkt_base.specs.Desk.{DeskState}
 use Rattle.mkt_base.specs.declared.event.Event.{Event}
-use Rattle.mkt_base.specs.declared.journal.Halt.{Halt}
 use Rattle.mkt_base.specs.declared.quote.Board.{Board}
 use Rattle.mkt_base.specs.declared.script.ScriptLine.{ScriptLine}
 use Rattle.mkt_base.specs.declared.script.ShowLine.{ShowLine}
-use Rattle.gateway.specs.Ran.{AreInStages, BeginNoEarlier, Deed, IsTaken, Ran, lines_after, lines_in, show_of}
+use Rattle.gateway.specs.Ran.{AreInStages, BeginNoEarlier, Deed, IsTaken, lines_after, lines_in, show_of}
 use Rattle.gateway.specs.Served.{Served, TakesAct, act_of}
 use Rattle.gateway.proofs.Lines.{all-behind, filter-none}
 use Rattle.gateway.proofs.Pairs.{pairs-head, pairs-tail}
-use Rattle.stage_law.specs.Come.{Cut, HasCome, HasSeenAll, IsBetween, answers_of, cut_at}
+use Rattle.stage_law.specs.Come.{Cut, HasCome, HasSeenAll, answers_of}
 use Rattle.stage_law.specs.Played.{deeds_at, lines_done}
 use Rattle.stage_law.proofs.Coming.{come_first, come_next}
 use Rattle.stage_play.specs.Blocks.{AllGoOn, HasComeTo, cut_of, next_cuts}
-use Rattle.stage_play.specs.Playing.{AllDone, HasDone, HasLevelled, HasRun, IsNew, IsReady, MayRun, desk_at}
+use Rattle.stage_play.specs.Playing.{AllDone, HasDone, HasLevelled, HasRun, IsReady, MayRun, desk_at}
 use Rattle.stage_play.proofs.SightLemmas.{within-sight}
-use Rattle.stage_play.specs.Seen.{CaughtUp, HasTold, seen_by}
+use Rattle.stage_play.specs.Seen.{CaughtUp, seen_by}
 use Rattle.stage_play.specs.declared.part.Part.{Part}
 use Rattle.stage_play.specs.declared.seen.Sight.{Sight}
 

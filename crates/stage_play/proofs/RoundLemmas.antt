@@ -1,14 +1,14 @@
 -- A round more of a block.
-use Rattle.std.proofs.Common.{◌≡◌, ℕ, suc, ◌+◌, ◌*◌, ◌<◌, ◌≤◌, List, length, map, take, drop, ◌++◌, replicate, slice_index_or, refl, sym, ap, subst, ◌∙◌, arith}
+use Rattle.std.proofs.Common.{◌≡◌, ℕ, suc, ◌+◌, ◌*◌, ◌<◌, ◌≤◌, List, length, take, drop, ◌++◌, replicate, slice_index_or, sym, ap, subst, ◌∙◌, arith}
 use Rattle.std.proofs.Math.Seq.{drop-append_seam, take-append_seam}
-use Rattle.std.proofs.lemmas.List.{append_assoc, length-append, length-replicate, map-append}
+use Rattle.std.proofs.lemmas.List.{length-append, length-replicate}
 use Rattle.mkt_base.specs.Desk.{DeskState}
 use Rattle.mkt_base.specs.declared.event.Event.{Event}
 use Rattle.mkt_base.specs.declared.quote.Board.{Board}
 use Rattle.all_gather.specs.Rounds.{Keeps}
 use Rattle.stage_law.specs.Come.{Cut}
-use Rattle.stage_play.specs.Blocks.{Advances, HasComeTo, cuts_after, next_cuts, nothing, sights_of}
-use Rattle.stage_play.specs.Playing.{HasDone, HasLevelled, HasRun, IsReady, desk_at}
+use Rattle.stage_play.specs.Blocks.{Advances, cuts_after, next_cuts, nothing, sights_of}
+use Rattle.stage_play.specs.Playing.{HasDone, HasLevelled, HasRun, desk_at}
 use Rattle.stage_play.specs.Seen.{sight_at}
 use Rattle.stage_play.specs.declared.notes.Note.{Note}
 use Rattle.stage_play.specs.declared.part.Part.{Part}
@@ -91,8 +91,3 @@ rest-more t less rest cells w now is split before = ap (λ (n : ℕ). less + (t 
 pub gathered-more : {X : Type 0} (t w now : ℕ) (xs ys all : List X) → now ≡ w → all ≡ xs ++ ys → length xs ≡ t * w → length ys ≡ w → length all ≡ (t + 1) * now
 gathered-more t w now xs ys all same is many one =
     ap (λ zs. length zs) is ∙ length-append xs ys ∙ ap (λ (n : ℕ). n + length ys) many ∙ ap (λ (n : ℕ). t * w + n) one ∙ sym (times-more t w) ∙ ap (λ (n : ℕ). (t + 1) * n) (sym same)
-
--- which were gathered
-pub names-split : {X : Type 0} (h : X → ℕ) (cells : List ℕ) (rest round others : List X) (all now : List ℕ) → all ≡ cells ++ map h rest → rest ≡ round ++ others → now ≡ cells ++ map h round → all ≡ now ++ map h others
-names-split h cells rest round others all now was split is =
-    was ∙ ap (λ xs. cells ++ map h xs) split ∙ ap (λ ys. cells ++ ys) (map-append h round others) ∙ sym (append_assoc cells (map h round) (map h others)) ∙ ap (λ ys. ys ++ map h others) (sym is)

@@ -1,5 +1,5 @@
 -- Stages that are played in a block, in which each gateway reads what the others have noted.
-use Rattle.std.specs.Prelude.{◌≡◌, ℕ, ◌+◌, ◌*◌, ◌^◌, ◌<◌, ◌≤◌, zero, suc, Bool, true, false, List, [], ◌∷◌, length, map, take, drop, replicate, Some, slice_index_or, slice_set}
+use Rattle.std.specs.Prelude.{◌≡◌, ℕ, ◌+◌, ◌*◌, ◌^◌, ◌<◌, zero, suc, Bool, true, false, List, [], ◌∷◌, length, take, drop, replicate, Some, slice_index_or, slice_set}
 use Rattle.mkt_base.specs.Desk.{DeskState}
 use Rattle.mkt_base.specs.declared.event.Event.{Event}
 use Rattle.mkt_base.specs.declared.quote.Board.{Board}
@@ -42,12 +42,11 @@ pub record IsBlock (stage count width cells : ℕ) : Type 0 where
   pub stages : stage + count < 2 ^ 32
   pub notes : cells ≡ count * width
 
--- what a gateway that has left a block knows of it: of which cells it has read
-pub record IsOf {D : Type 0} (cell : ℕ) (names : List ℕ) (m : Member D) : Type 0 where
+-- what a gateway that has left a block knows of it: in which cell it has read whether it was played
+pub record IsOf {D : Type 0} (cell : ℕ) (m : Member D) : Type 0 where
   pub went : Went
   pub is : m.went ≡ Some went
   pub of : went.go.of ≡ cell
-  pub cells : went.go.value ≡ true → went.gathered.cells ≡ names
 
 -- the same: whether it was played, and what is noted in it
 pub record Knows {D : Type 0} (go : Bool) (notes : List Note) (m : Member D) : Type 0 where
@@ -78,10 +77,9 @@ module _ {D F : Type 0} (state : D → DeskState) (fixed : D → F) (caller : F 
   Advances issues width stage count notes p r = GoesOn issues stage count (λ cuts. cuts_after issues width stage cuts count notes) p r
 
   -- A gateway has left a block: it went on by it, or is as it was before, and knows which, and what is noted in the block.
-  pub record HasLeft (issues width stage count cell : ℕ) (names : List ℕ) (p : Part D) (m : Member D) : Type 0 where
+  pub record HasLeft (issues width stage count cell : ℕ) (p : Part D) (m : Member D) : Type 0 where
     pub went : Went
     pub is : m.went ≡ Some went
     pub of : went.go.of ≡ cell
     pub stays : went.go.value ≡ false → m.part ≡ p
-    pub cells : went.go.value ≡ true → went.gathered.cells ≡ names
     pub on : went.go.value ≡ true → Advances issues width stage count went.gathered.values p m.part

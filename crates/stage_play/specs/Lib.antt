@@ -1,3 +1,4 @@
 pub mod Seen
 pub mod Playing
 pub mod Blocks
+pub mod Packing

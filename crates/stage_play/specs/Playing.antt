@@ -1,10 +1,9 @@
 -- Gateways at their desks, stage by stage.
-use Rattle.std.specs.Prelude.{◌≡◌, ℕ, ◌<◌, ◌≤◌, List, [], ◌++◌, length, map, filter_map, Option, None, All, slice_index_or}
+use Rattle.std.specs.Prelude.{◌≡◌, ℕ, ◌<◌, ◌≤◌, List, [], ◌++◌, length, filter_map, None, All, slice_index_or}
 use Rattle.mkt_base.specs.Desk.{DeskState}
 use Rattle.mkt_base.specs.declared.event.Event.{Event}
 use Rattle.mkt_base.specs.declared.quote.Board.{Board}
 use Rattle.mkt_base.specs.declared.script.ScriptLine.{ScriptLine}
-use Rattle.mkt_base.specs.declared.script.ShowLine.{ShowLine}
 use Rattle.gateway.specs.Ran.{AreInStages, BeginNoEarlier, Deed, IsTaken, Ran, lines_after, show_of}
 use Rattle.gateway.specs.Served.{act_of}
 use Rattle.stage_law.specs.Come.{Cut, HasCome}

@@ -1,5 +1,5 @@
 -- What desks have seen of an issue, and how one of them catches up with the others.
-use Rattle.std.specs.Prelude.{◌≡◌, ℕ, ◌≤◌, Bool, true, false, ◌||◌, List, [], ◌∷◌, length, max, Option, Some, None}
+use Rattle.std.specs.Prelude.{◌≡◌, ℕ, ◌≤◌, true, false, ◌||◌, List, [], ◌∷◌, length, max, Some, None}
 use Rattle.mkt_base.specs.Desk.{DeskState}
 use Rattle.mkt_base.specs.declared.journal.Halt.{Halt}
 use Rattle.mkt_base.specs.declared.quote.Board.{Board}

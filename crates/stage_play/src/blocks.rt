@@ -1,11 +1,11 @@
 // A block of stages, which the gateways play in threads that are forked once. Each of them leaves it with what it knows of it.
-ghost use Rattle.std.specs.Prelude.{◌≡◌, ℕ, ◌+◌, ◌*◌, ◌<◌, ◌≤◌, ◌^◌, true, false, length, map};
+ghost use Rattle.std.specs.Prelude.{◌≡◌, ℕ, ◌+◌, ◌*◌, ◌<◌, ◌≤◌, ◌^◌, true, false, length};
 ghost use Rattle.stage_play.specs.Blocks.{Advances, HasComeTo, HasLeft, IsBlock};
 
 use crate::notes::Note;
 use crate::rounds::{make_desktop, play_rounds};
 use crate::{Part, SeenDesk};
-use all_gather::{Gathered, agree};
+use all_gather::{Cell, Gathered, agree};
 use mkt_io::Gate;
 use std::alloc::Global;
 use std::sync::atomic::AtomicU64;
@@ -21,7 +21,7 @@ const TURNS: u32 = 65_536;
 #[derive(Clone, Copy)]
 pub(crate) struct Block<'c> {
     /// So many notes for each stage.
-    pub cells: &'c [OnceLock<Note>],
+    pub cells: &'c [Cell],
     /// Whether the block is played: all gateways' threads have begun.
     pub go: &'c OnceLock<bool>,
     /// How many have.
@@ -38,7 +38,7 @@ pub(crate) struct Block<'c> {
 #[derive(Drop)]
 pub(crate) struct Went<'c> {
     pub go: OnceToken<'c, bool>,
-    pub gathered: Gathered<'c, Note>,
+    pub gathered: Gathered<Note>,
 }
 
 // Says whether the block is played, unless it is said already.
@@ -105,7 +105,6 @@ fn play_part<'c, W: Wait, D: SeenDesk, G: Gate>(
     requires own { first + block.now.issues ≤ block.now.width }
     ensures of { result.go.of ≡ block.now.go.now.id }
     ensures stays { result.go.value ≡ false → part.new ≡ part.old }
-    ensures cells { result.go.value ≡ true → result.gathered.cells ≡ map (λ c. c.id) block.now.cells.now }
     ensures on { result.go.value ≡ true → Advances D.state D.fixed D.caller D.takes D.tells block.now.issues block.now.width block.now.stage block.now.count result.gathered.values part.old part.new }
 {
     let Ok(desktop) = make_desktop(alloc, block.issues, block.width, block.cells.len()) else {
@@ -143,23 +142,22 @@ pub(crate) fn play_member<'c, W: Wait, D: SeenDesk, G: Gate>(
     requires come { HasComeTo D.state D.fixed D.caller D.takes D.tells block.now.issues block.now.stage member.old.part }
     requires block { IsBlock block.now.stage block.now.count block.now.width (length block.now.cells.now) }
     requires own { place * block.now.issues + block.now.issues ≤ block.now.width }
-    ensures { HasLeft D.state D.fixed D.caller D.takes D.tells block.now.issues block.now.width block.now.stage block.now.count block.now.go.now.id (map (λ c. c.id) block.now.cells.now) member.old.part member.new }
+    ensures { HasLeft D.state D.fixed D.caller D.takes D.tells block.now.issues block.now.width block.now.stage block.now.count block.now.go.now.id member.old.part member.new }
 {
     let first = place * block.issues;
     let went = play_part(rt, alloc, &mut member.part, first, block, gate);
     member.went = Some(went);
 }
 
-// Two gateways that left a block know the same of it.
-pub(crate) fn compare<'c>(block: &Block<'c>, a: &Went<'c>, b: &Went<'c>)
+// Two gateways that left a block know the same of it. What a cell of notes holds carries no proof, so what the two have read is compared.
+pub(crate) fn compare<'c, W: Wait>(rt: &W, block: &Block<'c>, a: &Went<'c>, b: &Went<'c>)
     requires first { a.now.go.of ≡ block.now.go.now.id }
     requires second { b.now.go.of ≡ block.now.go.now.id }
-    requires cells { a.now.go.value ≡ true → b.now.go.value ≡ true → a.now.gathered.cells ≡ b.now.gathered.cells }
     ensures go { b.now.go.value ≡ a.now.go.value }
     ensures values { a.now.go.value ≡ true → b.now.gathered.values ≡ a.now.gathered.values }
 {
     a.go.agrees(&b.go);
     if *block.go.value(&a.go) {
-        agree(&a.gathered, &b.gathered);
+        agree(rt, &a.gathered, &b.gathered);
     }
 }

@@ -6,8 +6,8 @@ ghost use Rattle.stage_play.specs.declared.notes.Note.{Note};
 ghost use Rattle.stage_play.specs.declared.part.Part.{Part};
 
 use crate::blocks::{Block, Member, compare, play_member};
-use crate::notes::Note;
 use crate::{Part, SeenDesk};
+use all_gather::Cell;
 use mkt_io::Gate;
 use std::alloc::Global;
 use std::sync::atomic::AtomicU64;
@@ -48,7 +48,7 @@ fn play_each<'c, R: Threads + Wait + Sync, D: SeenDesk + Drop + Send, G: Gate + 
     requires own { length members.old * block.now.issues ≤ block.now.width }
     requires some { 0 < length members.old }
     ensures { (k : ℕ) (m : Member D) → k < length members.old
-        → HasLeft D.state D.fixed D.caller D.takes D.tells block.now.issues block.now.width block.now.stage block.now.count block.now.go.now.id (map (λ c. c.id) block.now.cells.now) (slice_index_or members.old k m).part (slice_index_or members.new k m) }
+        → HasLeft D.state D.fixed D.caller D.takes D.tells block.now.issues block.now.width block.now.stage block.now.count block.now.go.now.id (slice_index_or members.old k m).part (slice_index_or members.new k m) }
 {
     let threads = members.len();
     thread::for_each_mut(
@@ -60,9 +60,9 @@ fn play_each<'c, R: Threads + Wait + Sync, D: SeenDesk + Drop + Send, G: Gate + 
 }
 
 // Whether the block was played. All that left it know the same.
-fn was_played<'c, D: Drop>(block: &Block<'c>, members: &[Member<'c, D>]) -> bool
+fn was_played<'c, R: Wait, D: Drop>(rt: &R, block: &Block<'c>, members: &[Member<'c, D>]) -> bool
     requires some { 0 < length members.now }
-    requires left { All (IsOf block.now.go.now.id (map (λ c. c.id) block.now.cells.now)) members.now }
+    requires left { All (IsOf block.now.go.now.id) members.now }
     ensures { (notes : List Note) × All (Knows result notes) members.now }
 {
     let Some(first) = &members[0].went else {
@@ -72,7 +72,7 @@ fn was_played<'c, D: Drop>(block: &Block<'c>, members: &[Member<'c, D>]) -> bool
         let Some(went) = &member.went else {
             unreachable!()
         };
-        compare(block, first, went);
+        compare(rt, block, first, went);
     }
     *block.go.value(&first.go)
 }
@@ -101,7 +101,7 @@ fn play_cells<'c, R: Threads + Wait + Sync, D: SeenDesk + Drop + Send, G: Gate +
     };
     enter(parts, &mut members);
     play_each(rt, alloc, members.as_mut_slice(), block, gate);
-    let played = was_played(block, members.as_slice());
+    let played = was_played(rt, block, members.as_slice());
     leave(members, &mut back);
     (back, played)
 }
@@ -115,7 +115,7 @@ pub(crate) fn play_block<R: Threads + Wait + Sync, D: SeenDesk + Drop + Send, G:
     issues: usize,
     stage: u32,
     count: u32,
-    cells: &[OnceLock<Note>],
+    cells: &[Cell],
     gate: &G,
 ) -> (Vec<Part<D>>, bool)
     requires come { All (HasComeTo D.state D.fixed D.caller D.takes D.tells issues stage) parts.items }

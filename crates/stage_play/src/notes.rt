@@ -1,10 +1,12 @@
 // What a gateway notes for the others of what its desks have seen.
 ghost use Rattle.std.specs.Prelude.{◌≡◌, ℕ, ◌+◌, ◌<◌, ◌≤◌, length, slice_index_or, slice_set};
 ghost use Rattle.stage_play.specs.Blocks.{nothing, sights_of};
+ghost use Rattle.stage_play.specs.Packing.{packed, unpacked, unpacked_packed};
 ghost use Rattle.stage_play.specs.Seen.{joined, sight_at};
 ghost use Rattle.stage_play.specs.declared.notes.Note.{Note};
 
 use crate::{SeenDesk, Sight};
+use all_gather::{Packed, Words};
 
 /// What a gateway's desk of an issue has seen.
 #[derive(Clone, Copy)]
@@ -13,13 +15,41 @@ pub struct Note {
     pub sight: Sight,
 }
 
+impl Packed for Note {
+    ghost packed = { packed };
+
+    ghost unpacked = { unpacked };
+
+    #[inline]
+    fn pack(&self) -> Words {
+        Words {
+            first: self.issue as u64,
+            second: self.sight.seen,
+            third: u64::from(self.sight.halted),
+        }
+    }
+
+    #[inline]
+    fn unpack(words: Words) -> Note {
+        Note {
+            issue: words.first as usize,
+            sight: Sight {
+                seen: words.second,
+                halted: words.third != 0,
+            },
+        }
+    }
+
+    ghost told = { unpacked_packed };
+}
+
 /// Nothing is seen.
 pub(crate) const NOTHING: Sight = Sight {
     seen: 0,
     halted: false,
 };
 
-fn sight_at<D: SeenDesk>(desk: &D) -> Sight
+pub(crate) fn sight_at<D: SeenDesk>(desk: &D) -> Sight
     ensures { result ≡ sight_at (D.state desk.now) }
 {
     Sight {
@@ -29,7 +59,7 @@ fn sight_at<D: SeenDesk>(desk: &D) -> Sight
 }
 
 // What is seen by both together.
-fn both(a: Sight, b: Sight) -> Sight
+pub(crate) fn both(a: Sight, b: Sight) -> Sight
     ensures { result ≡ joined a b }
 {
     Sight {

@@ -2,10 +2,8 @@
 ghost use Rattle.std.specs.Prelude.{◌≡◌, ◌+◌, ◌*◌, ◌<◌, ◌≤◌, true, length};
 
 use crate::Part;
-use crate::notes::Note;
-use all_gather::make_cells;
+use all_gather::{Cell, make_cells};
 use std::alloc::{AllocError, Global};
-use std::sync::OnceLock;
 
 /// How many notes of a block there is room for.
 const NOTES: usize = 4_096;
@@ -31,7 +29,7 @@ fn stages_within(cells: usize, width: usize, stages: u32) -> u32
 }
 
 // The cells of blocks. None where a block would be of one stage, or where there is no memory.
-pub(crate) fn cells_for(alloc: Global, width: usize, stages: u32) -> Vec<OnceLock<Note>> {
+pub(crate) fn cells_for(alloc: Global, width: usize, stages: u32) -> Vec<Cell> {
     let most = stages_within(NOTES, width, stages);
     if most < 2 {
         return Vec::new(alloc);

@@ -1,5 +1,5 @@
 // A gateway's rounds of a block: in each it does its lines of a stage, notes what its desks have seen, and catches up with what all have noted.
-ghost use Rattle.std.specs.Prelude.{◌≡◌, ℕ, ◌+◌, ◌*◌, ◌<◌, ◌≤◌, ◌^◌, [], ◌++◌, length, map, IfOk};
+ghost use Rattle.std.specs.Prelude.{◌≡◌, ℕ, ◌+◌, ◌*◌, ◌<◌, ◌≤◌, ◌^◌, [], ◌++◌, length, IfOk};
 ghost use Rattle.stage_play.specs.Blocks.{Advances, HasComeTo};
 ghost use Rattle.stage_play.specs.declared.notes.Note.{Note};
 
@@ -7,31 +7,31 @@ use crate::notes::{NOTHING, Note, add_up, note_own};
 use crate::sights::level_part;
 use crate::stages::run_part;
 use crate::{Part, SeenDesk, Sight};
-use all_gather::{Gathered, gather};
+use all_gather::{Cell, Gathered, gather};
 use mkt_io::Gate;
 use std::alloc::{AllocError, Global};
-use std::sync::{OnceLock, Wait};
+use std::sync::Wait;
 
 /// What a gateway needs for its rounds.
 #[derive(Drop)]
-pub(crate) struct Desktop<'c> {
+pub(crate) struct Desktop {
     /// The notes of a round.
     pub board: Vec<Note>,
     /// What they say of each issue.
     pub sights: Vec<Sight>,
-    pub gathered: Gathered<'c, Note>,
+    pub gathered: Gathered<Note>,
 }
 
 // For so many issues, rounds of so many notes, and so many notes in all.
-pub(crate) fn make_desktop<'c>(
+pub(crate) fn make_desktop(
     alloc: Global,
     issues: usize,
     width: usize,
     cells: usize,
-) -> Result<Desktop<'c>, AllocError>
+) -> Result<Desktop, AllocError>
     ensures board { IfOk result (λ t. length t.board.items ≡ width) }
     ensures sights { IfOk result (λ t. length t.sights.items ≡ issues) }
-    ensures gathered { IfOk result (λ t. (t.gathered.cells ≡ []) × ((t.gathered.values ≡ []) × (t.gathered.room ≡ cells))) }
+    ensures gathered { IfOk result (λ t. (t.gathered.values ≡ []) × (t.gathered.room ≡ cells)) }
 {
     let none = Note {
         issue: 0,
@@ -48,22 +48,21 @@ pub(crate) fn make_desktop<'c>(
 }
 
 // One round, in which the gateway's own notes stand from the first place on.
-fn play_round<'c, W: Wait, D: SeenDesk, G: Gate>(
+fn play_round<W: Wait, D: SeenDesk, G: Gate>(
     rt: &W,
     part: &mut Part<D>,
     stage: u32,
-    round: &'c [OnceLock<Note>],
+    round: &[Cell],
     first: usize,
     board: &mut [Note],
     sights: &mut [Sight],
-    gathered: &mut Gathered<'c, Note>,
+    gathered: &mut Gathered<Note>,
     gate: &G,
 )
     requires come { HasComeTo D.state D.fixed D.caller D.takes D.tells (length sights.old) stage part.old }
     requires own { first + length sights.old ≤ length round.now }
     requires board { length board.old ≡ length round.now }
-    requires room { length gathered.old.cells + length round.now ≤ gathered.old.room }
-    ensures cells { gathered.new.cells ≡ gathered.old.cells ++ map (λ c. c.id) round.now }
+    requires room { length gathered.old.values + length round.now ≤ gathered.old.room }
     ensures values { gathered.new.values ≡ gathered.old.values ++ board.new }
     ensures room { gathered.new.room ≡ gathered.old.room }
     ensures on { Advances D.state D.fixed D.caller D.takes D.tells (length sights.old) (length round.now) stage 1 board.new part.old part.new }
@@ -77,23 +76,22 @@ fn play_round<'c, W: Wait, D: SeenDesk, G: Gate>(
 }
 
 // So many rounds, one for each stage from this one on.
-pub(crate) fn play_rounds<'c, W: Wait, D: SeenDesk, G: Gate>(
+pub(crate) fn play_rounds<W: Wait, D: SeenDesk, G: Gate>(
     rt: &W,
     part: &mut Part<D>,
     stage: u32,
     count: u32,
-    cells: &'c [OnceLock<Note>],
+    cells: &[Cell],
     first: usize,
-    desktop: Desktop<'c>,
+    desktop: Desktop,
     gate: &G,
-) -> Gathered<'c, Note>
+) -> Gathered<Note>
     requires come { HasComeTo D.state D.fixed D.caller D.takes D.tells (length desktop.sights.items) stage part.old }
     requires stages { stage + count < 2 ^ 32 }
     requires own { first + length desktop.sights.items ≤ length desktop.board.items }
     requires cells { length cells.now ≡ count * length desktop.board.items }
-    requires room { (desktop.gathered.cells ≡ []) × ((desktop.gathered.values ≡ []) × (length cells.now ≤ desktop.gathered.room)) }
-    ensures cells { result.cells ≡ map (λ c. c.id) cells.now }
-    ensures on { Advances D.state D.fixed D.caller D.takes D.tells (length desktop.entry.sights.items) (length desktop.entry.board.items) stage count result.values part.old part.new }
+    requires room { (desktop.gathered.values ≡ []) × (length cells.now ≤ desktop.gathered.room) }
+    ensures { Advances D.state D.fixed D.caller D.takes D.tells (length desktop.sights.items) (length desktop.board.items) stage count result.values part.old part.new }
 {
     let Desktop {
         mut board,

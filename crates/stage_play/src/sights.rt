@@ -5,6 +5,7 @@ ghost use Rattle.stage_play.specs.Playing.{HasLevelled, desk_at};
 ghost use Rattle.stage_play.specs.declared.part.Part.{Part};
 ghost use Rattle.stage_play.specs.declared.seen.Sight.{Sight};
 
+use crate::notes::{NOTHING, both, sight_at};
 use crate::seen::catch_up;
 use crate::{Part, SeenDesk, Sight};
 use std::sync::Wait;
@@ -16,10 +17,7 @@ fn sight_of<D: SeenDesk>(parts: &[Part<D>], issue: usize) -> Sight
     requires { All (λ (p : Part D). issue < length p.desks.items) parts.now }
     ensures { (d : D) → result ≡ seen_by (map (λ (p : Part D). D.state (desk_at p issue d)) parts.now) }
 {
-    let mut sight = Sight {
-        seen: 0,
-        halted: false,
-    };
+    let mut sight = NOTHING;
     for part in parts {
         sight = with_desk(sight, &part.desks[issue]);
     }
@@ -30,10 +28,7 @@ fn sight_of<D: SeenDesk>(parts: &[Part<D>], issue: usize) -> Sight
 fn with_desk<D: SeenDesk>(sight: Sight, desk: &D) -> Sight
     ensures { result ≡ joined sight (sight_at (D.state desk.now)) }
 {
-    Sight {
-        seen: sight.seen.max(desk.seen()),
-        halted: sight.halted || desk.is_halted(),
-    }
+    both(sight, sight_at(desk))
 }
 
 // The same of each issue.

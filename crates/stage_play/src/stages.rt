@@ -7,15 +7,14 @@ ghost use Rattle.stage_play.specs.declared.part.Part.{Part};
 ghost use Rattle.stage_play.specs.declared.seen.Sight.{Sight};
 
 use crate::members::play_block;
-use crate::notes::Note;
 use crate::plan::{block_from, cells_for, is_shared, width_of};
 use crate::sights::{level, look};
 use crate::{Part, SeenDesk, Sight};
-use all_gather::empty_cells;
+use all_gather::{Cell, empty_cells};
 use mkt_base::Desk;
 use mkt_io::Gate;
 use std::alloc::Global;
-use std::sync::{OnceLock, Wait};
+use std::sync::Wait;
 use std::thread;
 use std::thread::Threads;
 
@@ -75,7 +74,7 @@ fn try_block<R: Threads + Wait + Sync, D: SeenDesk + Drop + Send, G: Gate + Sync
     issues: usize,
     stage: u32,
     count: u32,
-    cells: &mut [OnceLock<Note>],
+    cells: &mut [Cell],
     gate: &G,
 ) -> (Vec<Part<D>>, bool)
     requires come { All (HasComeTo D.state D.fixed D.caller D.takes D.tells issues stage) parts.items }
@@ -103,7 +102,7 @@ fn play_some<R: Threads + Wait + Sync, D: SeenDesk + Drop + Send, G: Gate + Sync
     parts: Vec<Part<D>>,
     stage: u32,
     count: u32,
-    cells: &mut [OnceLock<Note>],
+    cells: &mut [Cell],
     sights: &mut [Sight],
     gate: &G,
 ) -> (Vec<Part<D>>, u32)

@@ -1,6 +1,5 @@
-use Rattle.std.proofs.Common.{◌≡◌, ℕ, ◌+◌, ◌<◌, List, length, slice_index_or, refl, sym, ap, subst, ◌∙◌, rules, arith}
-use Rattle.stage_play.specs.Blocks.{sights_of}
-use Rattle.stage_play.specs.Playing.{HasLevelled, desk_at}
+use Rattle.std.proofs.Common.{◌≡◌, ℕ, ◌+◌, ◌<◌, List, length, slice_index_or, subst, ◌∙◌, rules}
+use Rattle.stage_play.specs.Playing.{HasLevelled}
 use Rattle.stage_play.specs.declared.notes.Note.{Note}
 use Rattle.stage_play.specs.declared.seen.Sight.{Sight}
 use Rattle.stage_play.proofs.PlayLemmas.{may-run}

@@ -1,4 +1,4 @@
-use Rattle.std.proofs.Common.{length, ◌∙◌, refl}
+use Rattle.std.proofs.Common.{length, refl}
 use Rattle.stage_play.proofs.PlayLemmas.{all-step, as-many, may-play}
 use Rattle.stage_play.proofs.stages.play_stage.Goals as goal
 

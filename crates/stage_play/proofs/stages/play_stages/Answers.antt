@@ -1,4 +1,4 @@
-use Rattle.std.proofs.Common.{rules, ◌≡◌, ℕ, ◌+◌, ◌≤◌, length, All, refl, sym, subst, ◌∙◌, arith}
+use Rattle.std.proofs.Common.{rules, ℕ, length, All, refl, sym, subst, ◌∙◌, arith}
 use Rattle.stage_play.specs.Blocks.{AllGoOn, HasComeTo}
 use Rattle.stage_play.proofs.PlayLemmas.{all-come, all-nothing, all-on}
 use Rattle.stage_play.proofs.stages.play_stages.Goals as goal
